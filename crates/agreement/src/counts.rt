@@ -3,7 +3,6 @@ use itoa::Buffer;
 use rdb_types::{Bytes, NoMemory};
 use rdo_ast::reply::Reply;
 use session_jobs::TxRecord;
-use std::alloc::Global;
 
 #[derive(Clone, Copy, Drop)]
 pub struct Counts {
@@ -44,15 +43,14 @@ impl Counts {
         self.writes = self.writes.wrapping_add(writes);
     }
 
-    pub fn told(&self, alloc: Global) -> Result<Bytes, NoMemory> {
-        let mut out = Bytes::new(alloc);
-        put(&mut out, self.statements, " statements, ")?;
-        put(&mut out, self.done, " done, ")?;
-        put(&mut out, self.refused, " refused, ")?;
-        put(&mut out, self.unworked, " not worked, ")?;
-        put(&mut out, self.differ, " differ, ")?;
-        put(&mut out, self.needs, " needs, ")?;
-        put(&mut out, self.writes, " writes\n")?;
-        Ok(out)
+    /// Adds the line of them all.
+    pub fn put(&self, out: &mut Bytes) -> Result<(), NoMemory> {
+        put(out, self.statements, " statements, ")?;
+        put(out, self.done, " done, ")?;
+        put(out, self.refused, " refused, ")?;
+        put(out, self.unworked, " not worked, ")?;
+        put(out, self.differ, " differ, ")?;
+        put(out, self.needs, " needs, ")?;
+        put(out, self.writes, " writes\n")
     }
 }

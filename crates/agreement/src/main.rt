@@ -3,6 +3,10 @@
 
 mod compared;
 mod counts;
+mod lines;
+mod over_tables;
+mod rooms;
+mod session;
 mod world;
 
 use rdb_types::{Bytes, NoMemory};
@@ -10,25 +14,50 @@ use std::alloc::Global;
 use std::process::ExitCode;
 use world::World;
 
+// Says a line, whose answers are told.
+fn say_aloud(
+    alloc: Global,
+    world: &mut World,
+    line: &str,
+    out: &mut Bytes,
+) -> Result<(), NoMemory> {
+    out.extend(line.as_bytes())?;
+    out.push(b'\n')?;
+    let mut differs = Bytes::new(alloc);
+    world.say(alloc, line.as_bytes(), out, &mut differs)?;
+    out.extend(differs.as_slice())
+}
+
+// Says a line, which is told where something differs.
+fn say_quietly(
+    alloc: Global,
+    world: &mut World,
+    line: &str,
+    out: &mut Bytes,
+) -> Result<(), NoMemory> {
+    let mut told = Bytes::new(alloc);
+    world.say(alloc, line.as_bytes(), &mut told, out)?;
+    if out.as_slice().is_empty() {
+        return Ok(());
+    }
+    out.extend(b"IN ")?;
+    out.extend(line.as_bytes())?;
+    out.push(b'\n')
+}
+
 /// Adds what a line writes.
 fn say(alloc: Global, world: &mut World, line: &str, out: &mut Bytes) -> Result<(), NoMemory> {
     if line.starts_with("-") {
-        world.begin(alloc);
-    } else if line == "!" {
-        world.forget(alloc);
-    } else if let Some(text) = line.strip_prefix("?") {
-        out.extend(text.as_bytes())?;
-        out.push(b'\n')?;
-        world.say(alloc, text.as_bytes(), true, out)?;
-    } else {
-        world.say(alloc, line.as_bytes(), false, out)?;
-        if !out.as_slice().is_empty() {
-            out.extend(b"IN ")?;
-            out.extend(line.as_bytes())?;
-            out.push(b'\n')?;
-        }
+        return world.begin(alloc);
     }
-    Ok(())
+    if line == "!" {
+        world.forget(alloc);
+        return Ok(());
+    }
+    match line.strip_prefix("?") {
+        Some(text) => say_aloud(alloc, world, text, out),
+        None => say_quietly(alloc, world, line, out),
+    }
 }
 
 fn tell<R: Print>(rt: &R, out: &Bytes) {
@@ -37,21 +66,36 @@ fn tell<R: Print>(rt: &R, out: &Bytes) {
     }
 }
 
-fn main(rt: HostRuntime) -> ExitCode {
-    let mut world = World::new(rt.alloc());
+fn say_line(rt: &HostRuntime, world: &mut World, line: &str) -> Result<(), NoMemory> {
+    let mut out = Bytes::new(rt.alloc());
+    say(rt.alloc(), world, line, &mut out)?;
+    tell(rt, &out);
+    Ok(())
+}
+
+fn tell_counts(rt: &HostRuntime, world: &World) -> Result<(), NoMemory> {
+    let mut out = Bytes::new(rt.alloc());
+    world.counts().put(&mut out)?;
+    tell(rt, &out);
+    Ok(())
+}
+
+// Says each line, and gives the status.
+fn say_lines(rt: &HostRuntime, world: &mut World) -> u8 {
     for line in rt.lines(rt.alloc()) {
         let Ok(line) = line else {
-            return ExitCode::from(3);
+            return 3;
         };
-        let mut out = Bytes::new(rt.alloc());
-        let Ok(()) = say(rt.alloc(), &mut world, line.as_str(), &mut out) else {
-            return ExitCode::from(5);
-        };
-        tell(&rt, &out);
+        if say_line(rt, world, line.as_str()).is_err() {
+            return 5;
+        }
     }
-    let Ok(out) = world.counts().told(rt.alloc()) else {
-        return ExitCode::from(5);
-    };
-    tell(&rt, &out);
-    ExitCode::from(0)
+    if tell_counts(rt, world).is_ok() { 0 } else { 5 }
+}
+
+fn main(rt: HostRuntime) -> ExitCode {
+    match World::new(rt.alloc()) {
+        Ok(mut world) => ExitCode::from(say_lines(&rt, &mut world)),
+        Err(_) => ExitCode::from(5),
+    }
 }

@@ -90,11 +90,11 @@ fn deleted(
     }
 }
 
-fn tell_undefined(rt: &HostRuntime, stop: Stop<Reply>) {
+fn tell_undefined(rt: &HostRuntime, stop: &Stop<Reply>) {
     match stop {
-        Stop::Missing(need) => tell_need(rt, need),
-        Stop::Bad(key) => tell_keys(rt, "bad line", &[key]),
-        Stop::Own(reply) => tell_reply(rt, &reply),
+        Stop::Missing(need) => tell_need(rt, *need),
+        Stop::Bad(key) => tell_keys(rt, "bad line", &[*key]),
+        Stop::Own(reply) => tell_reply(rt, reply),
         Stop::NoMemory => tell(rt, "NO MEMORY"),
     }
 }
@@ -102,12 +102,12 @@ fn tell_undefined(rt: &HostRuntime, stop: Stop<Reply>) {
 fn lay_defined(
     rt: &HostRuntime,
     world: &mut World,
-    defined: Result<Writes, Stop<Reply>>,
+    defined: &Result<Writes, Stop<Reply>>,
 ) -> Result<(), NoMemory> {
     match defined {
         Ok(writes) => {
             tell_writes(rt, writes.as_slice());
-            world.lay(rt.alloc(), &writes)
+            world.lay(rt.alloc(), writes)
         }
         Err(stop) => {
             tell_undefined(rt, stop);
@@ -119,7 +119,7 @@ fn lay_defined(
 fn erase_deleted(
     rt: &HostRuntime,
     world: &mut World,
-    deleted: Result<Keys, rdb_checks::Stop>,
+    deleted: &Result<Keys, rdb_checks::Stop>,
 ) -> Result<(), NoMemory> {
     match deleted {
         Ok(keys) => {
@@ -127,7 +127,7 @@ fn erase_deleted(
             world.erase(rt.alloc(), keys.as_slice())
         }
         Err(rdb_checks::Stop::Refused(reply)) => {
-            tell_reply(rt, &reply);
+            tell_reply(rt, reply);
             Ok(())
         }
         Err(rdb_checks::Stop::Memory) => Err(NoMemory {}),
@@ -142,10 +142,10 @@ fn do_statement(
 ) -> Result<(), NoMemory>
     requires { IsWhole catalog.now }
 {
-    if let Some(defined) = defined(rt.alloc(), world, catalog, statement) {
+    if let Some(defined) = &defined(rt.alloc(), world, catalog, statement) {
         return lay_defined(rt, world, defined);
     }
-    match deleted(rt.alloc(), catalog, statement) {
+    match &deleted(rt.alloc(), catalog, statement) {
         Some(deleted) => erase_deleted(rt, world, deleted),
         None => {
             tell(rt, "NO DEFINITION");
@@ -177,7 +177,7 @@ pub fn say_without_rooms(
 ) -> Result<(), NoMemory> {
     match read_catalog(rt.alloc(), &world.known) {
         Ok(catalog) => {
-            if let Some(Err(stop)) = defined(rt.alloc(), &world.known, &catalog, statement) {
+            if let Some(Err(stop)) = &defined(rt.alloc(), &world.known, &catalog, statement) {
                 tell_undefined(rt, stop);
             }
             Ok(())

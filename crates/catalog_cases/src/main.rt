@@ -14,6 +14,18 @@ use shown::{show_area, show_longest_key, show_tables};
 use std::process::ExitCode;
 use world::World;
 
+/// The first item of a text.
+struct First {
+    item: Option<Item>,
+}
+
+// By hand, so that it is one call wherever it is let go.
+impl Drop for First {
+    fn drop(self) {
+        let First { item: _item } = self;
+    }
+}
+
 // A statement of RDO.
 fn say_text(
     rt: &HostRuntime,
@@ -25,11 +37,14 @@ fn say_text(
         return Err(NoMemory {});
     }
     let mut script = Script::new(text.as_bytes());
-    match script.next_item(rt.alloc())? {
+    let first = First {
+        item: script.next_item(rt.alloc())?,
+    };
+    match &first.item {
         Some(Item::Statement(statement)) => if has_rooms {
-            say_statement(rt, world, &statement)
+            say_statement(rt, world, statement)
         } else {
-            say_without_rooms(rt, world, &statement)
+            say_without_rooms(rt, world, statement)
         },
         _ => {
             let _ = println!(rt; "  NO STATEMENT");
@@ -39,6 +54,9 @@ fn say_text(
 }
 
 fn say(rt: &HostRuntime, world: &mut World, text: &str) -> Result<(), NoMemory> {
+    if text.starts_with("-") {
+        return world.begin(rt.alloc());
+    }
     let (about, rest) = text.split_once(' ').unwrap_or((text, ""));
     match about {
         "" | "!" => Ok(()),
@@ -56,24 +74,24 @@ fn say(rt: &HostRuntime, world: &mut World, text: &str) -> Result<(), NoMemory> 
     }
 }
 
-fn main(rt: HostRuntime) -> ExitCode {
-    let Ok(mut world) = World::new(rt.alloc()) else {
-        return ExitCode::from(5);
-    };
+// Says each line, and gives the status.
+fn say_lines(rt: &HostRuntime, world: &mut World) -> u8 {
     for line in rt.lines(rt.alloc()) {
         let Ok(line) = line else {
-            return ExitCode::from(3);
+            return 3;
         };
         let text = line.as_str();
         let _ = println!(rt; "{text}");
-        let done = if text.starts_with("-") {
-            world.begin(rt.alloc())
-        } else {
-            say(&rt, &mut world, text)
-        };
-        if done.is_err() {
-            return ExitCode::from(5);
+        if say(rt, world, text).is_err() {
+            return 5;
         }
     }
-    ExitCode::from(0)
+    0
+}
+
+fn main(rt: HostRuntime) -> ExitCode {
+    match World::new(rt.alloc()) {
+        Ok(mut world) => ExitCode::from(say_lines(&rt, &mut world)),
+        Err(_) => ExitCode::from(5),
+    }
 }

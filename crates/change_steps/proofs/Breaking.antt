@@ -28,20 +28,22 @@ use Rattle.disk_store.specs.declared.member.MemberStage.TheVariants as stage
 use Rattle.disk_store.specs.Memory.{StoreMemory}
 use Rattle.disk_store.specs.Numbers.{kept_in}
 use Rattle.disk_store.specs.Seats.{seat_with, stand_of, stand_at}
-use Rattle.disk_store.specs.Standing.{HasBegun, IsBroken, StageStands}
-use Rattle.disk_store.specs.Shown.{NumbersStand, TablesStand, WaitsAs, HaveStarts, Shown, sight_of}
+use Rattle.disk_store.specs.Standing.{HasBegun, IsBroken, IsJournalling, StageStands}
+use Rattle.disk_store.specs.Shown.{NumbersStand, TablesStand, WaitsAs, AreUnused, HaveStarts, Shown, sight_of}
 use Rattle.disk_store.proofs.Moving.{itself}
-use Rattle.disk_store.proofs.Beside.{SameAreas, StaysOf, stays-there}
+use Rattle.disk_store.proofs.Beside.{SameAreas, SameHeaders, StaysOf, stays-there}
 use Rattle.disk_store.proofs.Stepping.{ComesTo, Becomes, does-step}
 use Rattle.disk_store.proofs.Passing.{none-leaves}
 
 -- what stays shown behind a device call of a session that changes
-pub record StaysShown (v w : View) (held behind : StoreMemory) (h : Shelf) (shown : Shown v held h) : Type 0 where
+pub record StaysShown (v w : View) (s : ℕ) (held behind : StoreMemory) (h : Shelf) (shown : Shown v held h) : Type 0 where
   pub areas : SameAreas v w
+  pub headers : SameHeaders s v w
   pub numbered : NumbersStand w shown.ledger behind.numbers behind.next
   pub kept : behind.numbers.next + kept_in behind.members ≤ behind.numbers.written
   pub tabled : TablesStand w shown.ledger behind.tables
   pub used : HaveStarts behind.tables shown.versions.course
+  pub unused : AreUnused behind.tables shown.versions.course
   pub readers : ReaderFacts w shown.ledger behind.limits.snaps shown.versions.course shown.versions.waiting
   pub slots : HoldsAll w.content shown.versions.course.followed behind.limits.snaps behind.slots
 
@@ -56,19 +58,19 @@ taken-broken w g s m t has facts = broken_behind w w g s t facts has.transaction
 module _ (v w : View) (held behind : StoreMemory) (s : ℕ) (m n : Member) (was : slice_get held.members s ≡ Some m) (at : m.stage ≡ stage.Changing) (becomes : Becomes held behind s n) (breaks : n.stage ≡ stage.Broken) (number : n.tsn ≡ m.tsn) (same : n.written ≡ m.written) (told : w.tells ≡ v.tells)
     (leaves : IsTrue v.tells → LeavesOnly v w (λ image. IsPending v image ⊎ IsPending w image)) (later : v.moment ≤ w.moment) (no-fewer : v.faults ≤ w.faults)
     (facts : (h : Shelf) (shown : Shown v held h) → HasBegun shown.ledger s m → LedgerFacts w (stands_as s broken shown.ledger))
-    (stays : (h : Shelf) (shown : Shown v held h) → StaysShown v w held behind h shown)
+    (stays : (h : Shelf) (shown : Shown v held h) → StaysShown v w s held behind h shown)
     (keeps-space : (space : Space) → KeepsSpace space (becomes.space_of space)) where
   module _ (h : Shelf) (shown : Shown v held h) (stands : StageStands m.stage v shown.ledger s m) where
     abbrev g : Ledger
     g = shown.ledger
 
     has : HasBegun g s m
-    has = subst (λ x. StageStands x v g s m) at stands
+    has = let is : IsJournalling v g s m = subst (λ x. StageStands x v g s m) at stands in is.begun
 
     abbrev after : Ledger
     after = stands_as s broken g
 
-    kept : StaysShown v w held behind h shown
+    kept : StaysShown v w s held behind h shown
     kept = stays h shown
 
     here : after.standing s ≡ broken
@@ -92,7 +94,7 @@ module _ (v w : View) (held behind : StoreMemory) (s : ℕ) (m n : Member) (was 
       facts = facts h shown has;
       limits = refl;
       none = λ t apart rests. ap (λ b. if b then broken else g.standing t) apart ∙ rests;
-      others = λ t x apart got stood. stays-there v w g after t kept.areas (there t apart) x stood;
+      others = λ t x apart got stood. stays-there v w g after t kept.areas (there t apart) x (kept.headers t apart) stood;
       mine = subst (λ x. StageStands x w after s n) (sym breaks) mine;
       numbered = record { number = kept.numbered.number; first = kept.numbered.first; ceiling = kept.numbered.ceiling; group = kept.numbered.group };
       kept = kept.kept;
@@ -105,6 +107,7 @@ module _ (v w : View) (held behind : StoreMemory) (s : ℕ) (m n : Member) (was 
       waits_beside = λ t apart. refl;
       reads = λ t. refl;
       used = kept.used;
+      unused = kept.unused;
     }
 
   still : (ws : List Write) (start : Lines) → in_flight (seat_with m.stage ws start) ≡ None

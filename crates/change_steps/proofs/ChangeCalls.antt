@@ -1,5 +1,5 @@
 -- What the answers of a change's steps share.
-use Rattle.std.proofs.Common.{◌≡◌, ◌<◌, ℕ, List, Some, refl, ap, ◌∙◌, arith}
+use Rattle.std.proofs.Common.{◌≡◌, ◌<◌, ℕ, List, Some, ap, ◌∙◌, arith}
 use Rattle.std.specs.Prelude.{slice_get, slice_set}
 use Rattle.rdb_types.specs.declared.keys.Dbkey.{Dbkey}
 use Rattle.line_moves.specs.declared.places.Place.{Place}

@@ -21,7 +21,7 @@ use Rattle.disk_store.specs.declared.member.MemberStage.TheVariants as stage
 use Rattle.disk_store.specs.ChangeSteps.{change_ended, written_now}
 use Rattle.disk_store.specs.Memory.{StoreMemory}
 use Rattle.disk_store.specs.Seats.{seat_with, stand_of, stand_at}
-use Rattle.disk_store.specs.Standing.{HasBegun, HasJournalled, StageStands}
+use Rattle.disk_store.specs.Standing.{HasBegun, HasJournalled, IsJournalling, StageStands}
 use Rattle.disk_store.specs.Shown.{WaitPushed, WaitsAs, Shown, sight_of}
 use Rattle.disk_store.specs.Sound.{IsSound}
 use Rattle.disk_store.proofs.Moving.{itself}
@@ -77,7 +77,7 @@ module _ (v : View) (held : StoreMemory) (s : ℕ) (m : Member) (was : slice_get
     g = shown.ledger
 
     has : HasBegun g s m
-    has = subst (λ x. StageStands x v g s m) at stands
+    has = let is : IsJournalling v g s m = subst (λ x. StageStands x v g s m) at stands in is.begun
 
     -- there are no more before-images than lines
     no-more : m.journalled ≤ length m.written.keys
@@ -110,7 +110,7 @@ module _ (v : View) (held : StoreMemory) (s : ℕ) (m : Member) (was : slice_get
       facts = shown.facts;
       limits = refl;
       none = λ t apart rests. rests;
-      others = λ t x apart got stood. stays-there v v g g t (same-areas v) (record { standing = inl refl; going = refl; commit = refl }) x stood;
+      others = λ t x apart got stood. stays-there v v g g t (same-areas v) (record { standing = inl refl; going = refl; commit = refl }) x refl stood;
       mine = mine;
       numbered = record { number = shown.numbers.number; first = shown.numbers.first; ceiling = shown.numbers.ceiling; group = shown.numbers.group };
       kept = kept-stays held.members s held.numbers.next held.numbers.written m n was (omega arith) shown.kept;
@@ -120,6 +120,7 @@ module _ (v : View) (held : StoreMemory) (s : ℕ) (m : Member) (was : slice_get
       readers = readers-now;
       slots = held-left v shown.versions.course.followed held.limits.snaps m.aside held.slots shown.versions.slots;
       used = shown.versions.used;
+      unused = shown.versions.unused;
       waits = ap (λ b. if b then m.written.lines else shown.versions.waiting s) (itself s);
       waits_beside = λ t apart. ap (λ b. if b then m.written.lines else shown.versions.waiting t) apart;
       reads = λ t. refl;

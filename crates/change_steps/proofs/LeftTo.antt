@@ -55,7 +55,7 @@ module _ (v : View) (g : Ledger) (facts : LedgerFacts v g) (t : ℕ) (x : Member
   in-memory stage.Outside rests = of-resting rests
   in-memory (stage.Beginning ceiling) rests = of-resting rests
   in-memory stage.Writing has = of-begun has.begun
-  in-memory stage.Changing has = of-begun has
+  in-memory stage.Changing has = of-begun has.begun
   in-memory stage.Broken is = record { place = i; is = is.keys i undo got }
   in-memory stage.Prepared has = of-begun has.begun
   in-memory (stage.Committing (Entering at)) has = of-begun has.journalled.begun

@@ -5,7 +5,6 @@ mod JournalSteps
 mod WaitMore
 mod PushSteps
 mod PushFaults
-mod ReadFaults
 mod ChangeCalls
 mod NextPushed
 mod ChangeEnds

@@ -1,21 +1,28 @@
 -- The next line of a session was pushed aside, or had nothing to push: what is shown behind it.
-use Rattle.std.proofs.Common.{◌≡◌, ◌≤◌, ◌<◌, ℕ, zero, suc, IsTrue, length, Some, refl, sym, ap, subst, ◌∙◌, arith}
+use Rattle.std.proofs.Common.{◌≡◌, ◌≤◌, ◌<◌, ℕ, zero, suc, false, IsTrue, length, Some, ◌⊎◌, inl, inr, refl, sym, ap, subst, ◌∙◌, arith}
 use Rattle.std.specs.Prelude.{slice_get}
+use Rattle.std.proofs.lemmas.Bool.{false≢true}
 use Rattle.std.proofs.lemmas.Option.{same_Some}
 use Rattle.rdb_types.specs.declared.keys.Dbkey.{Dbkey}
-use Rattle.rdb_types.specs.declared.keys.LineState.TheVariants.{Never}
-use Rattle.rdb_outside.specs.Disk.{View, IsPending, OnlyReads}
+use Rattle.rdb_types.specs.declared.keys.Line.{Line}
+use Rattle.rdb_page.specs.Page.{IsOwner}
+use Rattle.rdb_outside.specs.Disk.{View, IsPending}
+use Rattle.rdb_outside.specs.Runs.{no_calls}
+use Rattle.line_store.specs.Shelves.{Shelf}
 use Rattle.line_store.specs.Calls.{GoesOn}
 use Rattle.line_store.specs.Sights.{Does}
 use Rattle.line_versions.specs.Versions.{snap_of}
+use Rattle.line_versions.specs.Files.{entries_in}
+use Rattle.line_versions.specs.Course.{IsChanged}
 use Rattle.stable_lines.specs.Slots.{line_at}
 use Rattle.disk_store.specs.declared.member.Member.{Member}
 use Rattle.disk_store.specs.declared.member.MemberStage.TheVariants as stage
 use Rattle.disk_store.specs.ChangeSteps.{IsNext, PassesNext, PushesNext, Unpushed, pushed_more, with_spent}
 use Rattle.disk_store.specs.Memory.{StoreMemory, with_member}
 use Rattle.disk_store.specs.Seats.{stand_at, steps_at}
-use Rattle.disk_store.specs.Shown.{sight_of}
-use Rattle.disk_store.specs.Sound.{IsSound}
+use Rattle.disk_store.specs.Shown.{IsUnused, Shown, sight_of}
+use Rattle.disk_store.specs.Sound.{IsSound, IsUsedIn}
+use Rattle.disk_store.proofs.SlotsSound.{found-key}
 use Rattle.disk_store.proofs.Members.{get-within}
 use Rattle.disk_store.proofs.Changed.{used-all}
 use Rattle.change_steps.proofs.PushFaults.{takes-fewer}
@@ -63,7 +70,7 @@ module _ (v w : View) (held behind : StoreMemory) (s : ℕ) (key : Dbkey) (chang
   module _ (sound : IsSound held) (now : IsTrue v.tells → IsPending v v.content) where
     by : (k : ℕ) → pushes.chain ≡ k → Does s (stand_at held.members s) (λ h g. GoesOn s h g) (sight_of v held) (sight_of w new)
     by zero none = does-pass v w held new s m n pushes.was sound at all key is pushes.chain refl refl refl refl refl pushes.rechains.keys pushes.rechains.line pushes.rechains.same refl refl refl refl refl fewer now
-        (pushes.takes.reads none) none (pushes.stands.never none) (pushes.takes.keeps none)
+        (pushes.takes.reads none) none (λ h shown ended. let never = pushes.stands.never none shown.tells in record { never = never.0; none = never.1 }) (pushes.takes.keeps none)
     by (suc k) more =
         let some : 1 ≤ pushes.chain = omega (arith, more) in
         does-push v w held new s m n pushes.was sound at all key is pushes.chain refl refl refl refl refl pushes.rechains.keys pushes.rechains.line pushes.rechains.same refl refl refl refl refl fewer now
@@ -75,7 +82,18 @@ module _ (v w : View) (held behind : StoreMemory) (s : ℕ) (key : Dbkey) (chang
 
 -- ---- without a slot
 
-module _ (v w : View) (held behind : StoreMemory) (s : ℕ) (key : Dbkey) (changes : Unpushed held.members s) (next : IsNext held.members s key) (passes : PassesNext s key held behind) where
+-- a line that the tables never used is unused on its page, where it bears no open transaction
+unused-here : (v : View) (held : StoreMemory) (h : Shelf) (shown : Shown v held h) (file : ℕ) (key : Dbkey) → IsOwner file key.area → (IsUsedIn held.tables file key → ⊥) → shown.versions.course.going (line_at v.content key).tsn.number ≡ false → IsUnused (line_at v.content key)
+unused-here v held h shown file key owner never ended = by (shown.versions.readers.versions.right.current key)
+  where
+    base : IsUnused (shown.versions.course.base key)
+    base = shown.versions.unused file key owner (λ used. never (record { owner = owner; used = used }))
+
+    by : (line_at v.content key ≡ shown.versions.course.base key) ⊎ IsChanged (entries_in v.content) shown.versions.course key (line_at v.content key) → IsUnused (line_at v.content key)
+    by (inl same) = subst (λ (l : Line). IsUnused l) (sym same) base
+    by (inr changed) = absurd (false≢true (sym ended ∙ changed.going))
+
+module _ (v : View) (held behind : StoreMemory) (s : ℕ) (key : Dbkey) (changes : Unpushed held.members s) (next : IsNext held.members s key) (passes : PassesNext s key held behind) where
   abbrev passed-m : Member
   passed-m = passes.member
 
@@ -89,7 +107,14 @@ module _ (v w : View) (held behind : StoreMemory) (s : ℕ) (key : Dbkey) (chang
   next-passed-less = fewer-at held.members behind.members s passed-m passed-n passes.was (ap (λ (x : StoreMemory). x.members) passes.is)
       (pushed-fewer passed-m passed-n (its-stage held s key changes next passed-m passes.was) refl refl refl refl passes.rechains.keys (get-within passed-m.written.keys passed-m.pushed key passed-is))
 
-  pub does-next-pass : IsSound held → (IsTrue v.tells → IsPending v v.content) → OnlyReads v w → (IsTrue v.tells → ((line_at v.content key).state ≡ Never) × ((line_at v.content key).chain ≡ 0)) → Does s (stand_at held.members s) (λ h g. GoesOn s h g) (sight_of v held) (sight_of w behind)
-  does-next-pass sound now reads never = subst (λ (x : StoreMemory). Does s (stand_at held.members s) (λ h g. GoesOn s h g) (sight_of v held) (sight_of w x)) (sym passes.is)
-      (does-pass v w held (with_member s passed-n held) s passed-m passed-n passes.was sound (its-stage held s key changes next passed-m passes.was) (all-in held s key changes next passed-m passes.was) key passed-is 0 refl refl refl refl refl passes.rechains.keys passes.rechains.line passes.rechains.same refl refl refl refl refl (omega arith) now
-      reads refl never refl)
+  -- its line lies in a file
+  its-file : IsSound held → (file : ℕ) × IsOwner file key.area
+  its-file sound =
+      let found = found-key held sound s passed-m passes.was passed-m.pushed key passed-is in
+      let lies = (sound.each s passed-m passes.was).lies key found.0 found.1 in
+      (lies.place.file, lies.is.owner)
+
+  pub does-next-pass : IsSound held → (IsTrue v.tells → IsPending v v.content) → Does s (stand_at held.members s) (λ h g. GoesOn s h g) (sight_of v held) (sight_of v behind)
+  does-next-pass sound now = subst (λ (x : StoreMemory). Does s (stand_at held.members s) (λ h g. GoesOn s h g) (sight_of v held) (sight_of v x)) (sym passes.is)
+      (does-pass v v held (with_member s passed-n held) s passed-m passed-n passes.was sound (its-stage held s key changes next passed-m passes.was) (all-in held s key changes next passed-m passes.was) key passed-is 0 refl refl refl refl refl passes.rechains.keys passes.rechains.line passes.rechains.same refl refl refl refl refl (omega arith) now
+      (no_calls v) refl (λ h shown ended. let file = its-file sound in unused-here v held h shown file.0 key file.1 (passes.never file.0) ended) refl)

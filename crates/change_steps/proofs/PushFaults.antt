@@ -23,14 +23,14 @@ use Rattle.ledger_versions.specs.Readers.{ReaderFacts}
 use Rattle.ledger_versions.proofs.Written.{still_reads, still_slot}
 use Rattle.disk_store.specs.declared.member.Member.{Member}
 use Rattle.disk_store.specs.declared.member.MemberStage.TheVariants as stage
-use Rattle.disk_store.specs.ChangeSteps.{TakesAside, with_spent}
-use Rattle.disk_store.specs.Memory.{StoreMemory, at_stage, with_member}
+use Rattle.disk_store.specs.ChangeSteps.{TakesAside, broken_off}
+use Rattle.disk_store.specs.Memory.{StoreMemory, with_member}
 use Rattle.disk_store.specs.Seats.{stand_at}
 use Rattle.disk_store.specs.Standing.{HasBegun}
 use Rattle.disk_store.specs.Shown.{Shown, sight_of}
 use Rattle.disk_store.proofs.Kept.{kept-stays}
 use Rattle.disk_store.proofs.Stepping.{Becomes}
-use Rattle.disk_store.proofs.Passing.{passes-reads, aside-ceiling, slots-pass}
+use Rattle.disk_store.proofs.Passing.{header-beside, headers-all, passes-reads, aside-ceiling, slots-pass}
 use Rattle.disk_store.proofs.Changed.{used-all}
 use Rattle.change_steps.proofs.SnapWritten.{areas, snap-keeps, snap-tables}
 use Rattle.disk_store.proofs.SpentSlots.{spends-all, space-less, keeps-less, stands-less}
@@ -42,7 +42,7 @@ takes-fewer v w key chain old new takes = spends-all old new (snap_of key) takes
 
 module _ (v w : View) (held : StoreMemory) (s : ℕ) (m : Member) (was : slice_get held.members s ≡ Some m) (at : m.stage ≡ stage.Changing) (key : Dbkey) (chain : ℕ) (slots : SnapshotSlots) (takes : TakesAside v w key chain held.slots slots) where
   abbrev n : Member
-  n = at_stage stage.Broken (with_spent chain (snap_of key) m)
+  n = broken_off chain (snap_of key) m
 
   abbrev behind : StoreMemory
   behind = record (with_member s n held) { slots = slots }
@@ -71,9 +71,10 @@ module _ (v w : View) (held : StoreMemory) (s : ℕ) (m : Member) (was : slice_g
     holds (suc k) some = takes.holds w.content followed held.limits.snaps (λ file is. holds_moved v.content w.content followed file held.limits.snaps (table_of held.slots file)
         (kept_in_slot v w followed (snap_of key) (chain - 1) shown.tells (unfollowed (omega (arith, some))) takes.writes) (shown.versions.slots file is))
 
-    stays-shown : StaysShown v w held behind h shown
+    stays-shown : StaysShown v w s held behind h shown
     stays-shown = record {
       areas = areas v w (snap_of key) (chain - 1) shown.tells takes.writes;
+      headers = headers-all v w s (header-beside v w (snap_file (snap_of key)) (chain - 1) shown.tells (λ e. cc) takes.writes);
       numbered = record {
         number = shown.numbers.number;
         first = shown.numbers.first;
@@ -83,6 +84,7 @@ module _ (v w : View) (held : StoreMemory) (s : ℕ) (m : Member) (was : slice_g
       kept = kept-stays held.members s held.numbers.next held.numbers.written m n was (omega arith) shown.kept;
       tabled = snap-tables v w (snap_of key) (chain - 1) shown.tells takes.writes shown.ledger held.tables shown.tables;
       used = shown.versions.used;
+      unused = shown.versions.unused;
       readers = readers chain refl;
       slots = holds chain refl;
     }

@@ -4,7 +4,6 @@ use Rattle.std.specs.Prelude.{slice_get, slice_set, if◌then◌else◌}
 use Rattle.std.specs.FinMap.Entries.{find, put}
 use Rattle.rdb_types.specs.declared.keys.Dbkey.{Dbkey}
 use Rattle.rdb_types.specs.declared.keys.Line.{Line}
-use Rattle.rdb_types.specs.declared.keys.LineState.TheVariants.{Never}
 use Rattle.rdb_types.specs.declared.keys.Tsn.{Tsn}
 use Rattle.rdb_types.specs.Order.{dbkey_order}
 use Rattle.rdb_outside.specs.Disk.{View, IsPending, OnlyReads}
@@ -17,7 +16,7 @@ use Rattle.line_store.specs.Sights.{bare, Does}
 use Rattle.line_versions.specs.Versions.{snap_of}
 use Rattle.line_versions.specs.Files.{entries_in, snap_file}
 use Rattle.line_versions.specs.Course.{Course, pushed}
-use Rattle.stable_lines.specs.Slots.{line_at}
+use Rattle.stable_lines.specs.Slots.{line_at, named}
 use Rattle.line_moves.specs.Calls.{OnlyWrites}
 use Rattle.line_moves.specs.Lines.{ChangedLines}
 use Rattle.disk_versions.specs.Courses.{course_pushed}
@@ -39,15 +38,15 @@ use Rattle.disk_store.specs.ChangeSteps.{rechained}
 use Rattle.disk_store.specs.Memory.{StoreMemory}
 use Rattle.disk_store.specs.Numbers.{kept_at, kept_in}
 use Rattle.disk_store.specs.Seats.{seat_with, stand_of, stand_at, steps_in}
-use Rattle.disk_store.specs.Standing.{HasBegun, StageStands}
-use Rattle.disk_store.specs.Shown.{NumbersStand, TablesStand, WaitPushed, WaitsAs, Shown, pages_of, sight_of}
+use Rattle.disk_store.specs.Standing.{HasBegun, IsJournalling, StageStands}
+use Rattle.disk_store.specs.Shown.{NumbersStand, TablesStand, WaitPushed, WaitsAs, AreUnused, IsUnused, Shown, pages_of, sight_of}
 use Rattle.disk_store.specs.Sound.{IsSound}
 use Rattle.disk_store.proofs.Moving.{itself}
 use Rattle.disk_store.proofs.Members.{get-within}
-use Rattle.disk_store.proofs.Beside.{SameAreas, stays-there}
+use Rattle.disk_store.proofs.Beside.{SameAreas, SameHeader, stays-there}
 use Rattle.disk_store.proofs.Kept.{kept-stays}
 use Rattle.disk_store.proofs.Stepping.{ComesTo, Becomes, does-step}
-use Rattle.disk_store.proofs.Passing.{Passes, passes-reads, reads-leave, reads-ceiling, aside-ceiling, tables-pass, slots-pass}
+use Rattle.disk_store.proofs.Passing.{Passes, header-beside, header-read, passes-reads, reads-leave, reads-ceiling, aside-ceiling, tables-pass, slots-pass}
 use Rattle.disk_store.proofs.Changed.{got-within, used-all}
 use Rattle.change_steps.proofs.LeftTo.{not-borne}
 use Rattle.change_steps.proofs.SnapWritten.{areas, snap-keeps, snap-tables}
@@ -114,8 +113,11 @@ module _ (v w : View) (held behind : StoreMemory) (s : ℕ) (m n : Member) (was 
     abbrev g : Ledger
     g = shown.ledger
 
+    abbrev journals : IsJournalling v g s m
+    journals = subst (λ x. StageStands x v g s m) at stands
+
     abbrev has : HasBegun g s m
-    has = subst (λ x. StageStands x v g s m) at stands
+    has = journals.begun
 
     wait-was : WaitPushed (shown.versions.waiting s) m.pushed m.written
     wait-was = subst (λ x. WaitsAs x shown.versions.waiting s m) at (shown.versions.waits s m was)
@@ -147,6 +149,9 @@ module _ (v w : View) (held behind : StoreMemory) (s : ℕ) (m n : Member) (was 
       keys = λ i undo got. ap (λ ks. slice_get ks i) keys-is ∙ has.keys i undo got;
     }
 
+    journals-now : SameHeader s v w → IsJournalling w g s n
+    journals-now same = record { begun = begun-now; header = λ noted. ap named same ∙ journals.header (sym named-is ∙ noted) ∙ ap (λ (k : Tsn). k.number) (sym tsn-is) }
+
     ended : shown.versions.course.going (line_at v.content key).tsn.number ≡ false
     ended = not-borne v g shown.facts s has.all has.stable has.stands key (left-still v g s m key has all-in is shown.facts) held.limits.snaps shown.versions.course shown.versions.waiting shown.versions.readers (now shown.tells)
 
@@ -159,15 +164,15 @@ module _ (v w : View) (held behind : StoreMemory) (s : ℕ) (m n : Member) (was 
         subst (λ (x : Numbers). x.next + kept_in behind.members ≤ x.written) (sym numbers-is) (subst (λ (ms : List Member). held.numbers.next + kept_in ms ≤ held.numbers.written) (sym members-is) (kept-stays held.members s held.numbers.next held.numbers.written m n was (omega (arith, none)) shown.kept))
 
     -- what a step comes to that keeps the ledger
-    abbrev comes-so : (course : Course) → SameAreas v w → LedgerFacts w g → NumbersStand w g behind.numbers behind.next → TablesStand w g behind.tables → ReaderFacts w g behind.limits.snaps course (set_waiting s more shown.versions.waiting)
-        → HoldsAll w.content course.followed behind.limits.snaps behind.slots → ((t : ℕ) → course.reader t ≡ shown.versions.course.reader t) → ComesTo v w behind s n g shown.versions.course shown.versions.waiting
-    comes-so course same facts numbered tabled readers slots reads = record {
+    abbrev comes-so : (course : Course) → SameAreas v w → ((t : ℕ) → SameHeader t v w) → LedgerFacts w g → NumbersStand w g behind.numbers behind.next → TablesStand w g behind.tables → ReaderFacts w g behind.limits.snaps course (set_waiting s more shown.versions.waiting)
+        → HoldsAll w.content course.followed behind.limits.snaps behind.slots → AreUnused held.tables course → ((t : ℕ) → course.reader t ≡ shown.versions.course.reader t) → ComesTo v w behind s n g shown.versions.course shown.versions.waiting
+    comes-so course same header facts numbered tabled readers slots unused reads = record {
       ledger = g;
       facts = facts;
       limits = refl;
       none = λ t apart rests. rests;
-      others = λ t x apart got stood. stays-there v w g g t same (record { standing = inl refl; going = refl; commit = refl }) x stood;
-      mine = subst (λ x. StageStands x w g s n) (sym at-now) begun-now;
+      others = λ t x apart got stood. stays-there v w g g t same (record { standing = inl refl; going = refl; commit = refl }) x (header t) stood;
+      mine = subst (λ x. StageStands x w g s n) (sym at-now) (journals-now (header s));
       numbered = numbered;
       kept = kept-now;
       tabled = tabled;
@@ -178,6 +183,7 @@ module _ (v w : View) (held behind : StoreMemory) (s : ℕ) (m n : Member) (was 
       waits = wait-new;
       waits_beside = λ t apart. ap (λ b. if b then more else shown.versions.waiting t) apart;
       reads = reads;
+      unused = subst (λ (x : Tables). AreUnused x course) (sym tables-is) unused;
       used = λ r file reading start is goes lines. subst (λ (x : Tables). WereUsed (pages_of x file) file start) (sym tables-is) (shown.versions.used r file reading start is (sym (reads r) ∙ goes) lines);
     }
 
@@ -224,12 +230,15 @@ module _ (v w : View) (held behind : StoreMemory) (s : ℕ) (m n : Member) (was 
         group = shown.numbers.group;
       }))
 
+      headers-stay : (r : ℕ) → SameHeader r v w
+      headers-stay r = header-beside v w (snap_file (snap_of key)) (chain - 1) t (λ e. cc) only r
+
       abbrev to-pushed : ComesTo v w behind s n shown.ledger shown.versions.course shown.versions.waiting
-      to-pushed = comes-so h shown stands course (areas v w (snap_of key) (chain - 1) t only) (snap-keeps v w (snap_of key) (chain - 1) t only shown.ledger shown.facts) numbered
+      to-pushed = comes-so h shown stands course (areas v w (snap_of key) (chain - 1) t only) headers-stay (snap-keeps v w (snap_of key) (chain - 1) t only shown.ledger shown.facts) numbered
           (subst (λ x. TablesStand w shown.ledger x) (sym tables-is) (snap-tables v w (snap_of key) (chain - 1) t only shown.ledger held.tables shown.tables))
           (subst (λ x. ReaderFacts w shown.ledger x.snaps course (set_waiting s (more h shown stands) shown.versions.waiting)) (sym limits-is) readers-now)
           (subst (λ x. HoldsAll w.content course.followed x.snaps behind.slots) (sym limits-is) (holds h shown (ended h shown stands) (ap (λ (k : Tsn). shown.versions.course.going k.number) open-one.number ∙ shown.versions.readers.versions.goes s open-one.transaction open-one.is_open)))
-          (λ r. refl)
+          shown.versions.unused (λ r. refl)
 
     pub does-push : Does s (stand_at held.members s) (λ h g. GoesOn s h g) (sight_of v held) (sight_of w behind)
     does-push = subst (λ x. Does s (stand_of x) (λ h g. GoesOn s h g) (sight_of v held) (sight_of w behind)) (sym was)
@@ -239,7 +248,7 @@ module _ (v w : View) (held behind : StoreMemory) (s : ℕ) (m n : Member) (was 
 
   -- ---- it was never used
 
-  module _ (reads : OnlyReads v w) (none : chain ≡ 0) (never : IsTrue v.tells → ((line_at v.content key).state ≡ Never) × ((line_at v.content key).chain ≡ 0)) (slots-is : behind.slots ≡ held.slots) where
+  module _ (reads : OnlyReads v w) (none : chain ≡ 0) (never : (h : Shelf) (shown : Shown v held h) → shown.versions.course.going (line_at v.content key).tsn.number ≡ false → IsUnused (line_at v.content key)) (slots-is : behind.slots ≡ held.slots) where
     module _ (h : Shelf) (shown : Shown v held h) (stands : StageStands m.stage v shown.ledger s m) where
       p : Passes v w
       p = passes-reads v w shown.tells reads
@@ -250,7 +259,7 @@ module _ (v w : View) (held behind : StoreMemory) (s : ℕ) (m n : Member) (was 
       readers-first : ReaderFacts v shown.ledger held.limits.snaps shown.versions.course (set_waiting s (more h shown stands) shown.versions.waiting)
       readers-first = same_ledger v held.limits.snaps shown.versions.course (set_waiting s (more h shown stands) shown.versions.waiting) shown.ledger s (changing begun-one.all begun-one.stable) begun-one.stands
           (line_first v shown.ledger held.limits.snaps shown.versions.course shown.versions.waiting s begun-one.all begun-one.stable begun-one.transaction shown.facts begun-one.stands begun-one.is_open shown.versions.readers key line (more h shown stands) (ended h shown stands) (bears h shown stands)
-          (record { never = (never shown.tells).0; none = (never shown.tells).1; chain = none }) (has-before v shown.ledger s m key begun-one all-in is)
+          (record { never = (never h shown (ended h shown stands)).never; none = (never h shown (ended h shown stands)).none; chain = none }) (has-before v shown.ledger s m key begun-one all-in is)
           (puts-in (shown.versions.waiting s) m.pushed m.written n.written key before chain (once h shown stands) is keys-is (lines-is before found) (wait-was h shown stands)) (none-waits (shown.versions.waiting s) m.pushed m.written n.written key before chain (once h shown stands) is keys-is (lines-is before found) (wait-was h shown stands)))
 
       numbered-first : NumbersStand w shown.ledger behind.numbers behind.next
@@ -262,11 +271,11 @@ module _ (v w : View) (held behind : StoreMemory) (s : ℕ) (m n : Member) (was 
       }))
 
       abbrev to-passed : ComesTo v w behind s n shown.ledger shown.versions.course shown.versions.waiting
-      to-passed = comes-so h shown stands shown.versions.course p.areas (read_ledger v w shown.ledger shown.tells reads shown.facts) numbered-first
+      to-passed = comes-so h shown stands shown.versions.course p.areas (header-read v w shown.tells reads) (read_ledger v w shown.ledger shown.tells reads shown.facts) numbered-first
           (subst (λ x. TablesStand w shown.ledger x) (sym tables-is) (tables-pass v w p shown.ledger shown.ledger held.tables refl shown.tables))
           (subst (λ x. ReaderFacts w shown.ledger x.snaps shown.versions.course (set_waiting s (more h shown stands) shown.versions.waiting)) (sym limits-is) (p.readers shown.ledger held.limits.snaps shown.versions.course (set_waiting s (more h shown stands) shown.versions.waiting) readers-first))
           (subst (λ x. HoldsAll w.content shown.versions.course.followed x.snaps behind.slots) (sym limits-is) (subst (λ x. HoldsAll w.content shown.versions.course.followed held.limits.snaps x) (sym slots-is) (slots-pass v w p shown.versions.course.followed held.limits.snaps held.slots shown.versions.slots)))
-          (λ r. refl)
+          shown.versions.unused (λ r. refl)
 
     pub does-pass : Does s (stand_at held.members s) (λ h g. GoesOn s h g) (sight_of v held) (sight_of w behind)
     does-pass = subst (λ x. Does s (stand_of x) (λ h g. GoesOn s h g) (sight_of v held) (sight_of w behind)) (sym was)

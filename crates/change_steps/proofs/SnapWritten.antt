@@ -1,5 +1,5 @@
 -- A slot of a snapshot file is written: the ledger stays, and the tables.
-use Rattle.std.proofs.Common.{◌≡◌, ◌-◌, ℕ, suc, IsTrue, List, Option, refl, sym, ap, subst, arith}
+use Rattle.std.proofs.Common.{◌≡◌, ◌-◌, ℕ, suc, IsTrue, List, Option, refl, ap, subst, arith}
 use Rattle.rdb_types.specs.declared.file.FileId.{FileId}
 use Rattle.rdb_types.specs.declared.file.FileKind.TheVariants.{Root, Area, Ruj, Aij, Snap}
 use Rattle.rdb_outside.specs.Disk.{View, Pending}

@@ -8,7 +8,7 @@ ghost use Rattle.disk_store.specs.Seats.{stand_at};
 ghost use Rattle.disk_store.specs.Shown.{sight_of};
 
 use disk_store::{Held, MemberStage};
-use line_moves::place_of;
+use line_moves::{place_of, ruj_file};
 use line_store::{Fault, Stepped};
 use member_steps::{Journalled, journal_next};
 use rdb_outside::Disk;
@@ -26,6 +26,7 @@ pub(crate) fn journal_key<D: Disk>(
     ensures comes { Does s.number (stepped_to (stand_at held.old.members s.number) result)
         (Steps s.number result) (sight_of (D.view disk.old) held.old) (sight_of (D.view disk.new) held.new) }
     ensures less { result ≡ Ok stepped.More → IsLess s.number (sight_of (D.view disk.old) held.old) (sight_of (D.view disk.new) held.new) }
+    ensures goes_on { result ≡ Ok stepped.Astray → ⊥ }
 {
     held.sound();
     let member = held.member(s);
@@ -42,10 +43,10 @@ pub(crate) fn journal_key<D: Disk>(
             Ok(Stepped::More)
         }
         Ok(Journalled::Header) => {
-            // it was written before, and doesn't stand
+            // a header that was written stands, on each disk that tells its content
             if named {
                 held.set_stage(s, MemberStage::Broken);
-                return Ok(Stepped::Astray);
+                return Err(Fault::Bad(ruj_file(s.number), 0));
             }
             held.note_named(s);
             Ok(Stepped::More)

@@ -9,7 +9,7 @@ ghost use Rattle.disk_store.specs.Seats.{IsAtStage, stand_at};
 ghost use Rattle.disk_store.specs.Shown.{sight_of};
 
 use crate::journalling::journal_key;
-use crate::pushing::push_or_pass;
+use crate::pushing::push_line;
 use disk_store::Held;
 use line_store::{Fault, Stepped};
 use rdb_outside::Disk;
@@ -34,6 +34,7 @@ pub fn change_step<D: Disk>(disk: &mut D, held: &mut Held, s: Session) -> Result
     ensures comes { Does s.number (stepped_to (stand_at held.old.members s.number) result)
         (Steps s.number result) (sight_of (D.view disk.old) held.old) (sight_of (D.view disk.new) held.new) }
     ensures less { result ≡ Ok stepped.More → IsLess s.number (sight_of (D.view disk.old) held.old) (sight_of (D.view disk.new) held.new) }
+    ensures goes_on { result ≡ Ok stepped.Astray → ⊥ }
 {
     let member = held.member(s);
     let count = member.written.keys().len() as u32;
@@ -43,13 +44,13 @@ pub fn change_step<D: Disk>(disk: &mut D, held: &mut Held, s: Session) -> Result
         return journal_key(disk, held, s);
     }
     if pushed < count {
-        return push_or_pass(disk, held, s);
+        return push_line(disk, held, s);
     }
     end_change(disk, held, s);
     Ok(Stepped::Done)
 }
 
-/// A session whose change failed, or went astray, doesn't go on.
+/// A session whose change failed doesn't go on.
 pub fn broken_step<D: Disk>(_disk: &D, _held: &Held, s: Session) -> Stepped
     requires broken { IsAtStage _held.now.members s.number stage.Broken }
     ensures answers { MayAnswer (stand_at _held.now.members s.number) (Ok result) }

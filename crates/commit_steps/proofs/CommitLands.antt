@@ -16,7 +16,7 @@ use Rattle.stable_lines.specs.Journal.{next_slot, write_of}
 use Rattle.stable_lines.specs.Progress.{lines_with}
 use Rattle.line_seat.specs.declared.commit.CommitStage.TheVariants.{Gathering, Landing, Committed}
 use Rattle.line_seat.specs.Groups.{group_of}
-use Rattle.disk_seats.specs.Ledgers.{resting, Commit, Ledger, held_up, landed_at}
+use Rattle.disk_seats.specs.Ledgers.{resting, Commit, Ledger, again, commit_at, held_up, landed_at}
 use Rattle.disk_seats.specs.Members.{LedgerFacts}
 use Rattle.disk_versions.specs.Courses.{course_landed}
 use Rattle.member_steps.specs.declared.committing.CommitTurn.{CommitTurn}
@@ -48,6 +48,7 @@ use Rattle.disk_store.proofs.Beside.{StaysWith, rests}
 use Rattle.commit_steps.proofs.Turning.{beside-stands, slots-aside, tables-turned}
 use Rattle.commit_steps.proofs.CommitGoes.{lands-from}
 use Rattle.disk_store.proofs.LinesPut.{all-used}
+use Rattle.disk_store.proofs.Unused.{unused-behind}
 use Rattle.disk_store.proofs.Landed.{slot-behind, number-behind, tables-landed, becomes-landed, takes-landed}
 
 -- ---- what is shown
@@ -111,7 +112,7 @@ module _ (v w : View) (held : StoreMemory) (s : ℕ) (m : Member) (was : slice_g
       facts = facts;
       limits = refl;
       none = λ t apart rested. rests v v g k t (λ file page is. refl) (λ classes lie. lie) (stays t apart) rested;
-      others = λ t x apart got stood. beside-stands held s m was (ap is_flying at) commits v w g k t x apart (sym (set-beside held.members s t n apart) ∙ got) (stays t apart) stood;
+      others = λ t x apart got stood. beside-stands held s m was (ap is_flying at) commits v w g k t x (makes.journals shown.tells t 0) apart (sym (set-beside held.members s t n apart) ∙ got) (stays t apart) stood;
       mine = ap (λ (b : Bool). cond b resting (g.standing s)) (itself s);
       numbered = record {
         number = shown.numbers.number;
@@ -130,6 +131,7 @@ module _ (v w : View) (held : StoreMemory) (s : ℕ) (m : Member) (was : slice_g
           (makes.changes shown.tells g shown.facts) makes.distinct (waits-now v held s m was (Going Landing) at sound commits are h shown) shown.versions.readers w.moment (left (subst IsTrue (sym makes.writes.only.told) shown.tells)) under held-facts facts;
       slots = slots-aside v w shown.tells makes.writes shown.versions.course.followed held.limits.snaps held.slots shown.versions.slots;
       used = λ t file reading start is goes lines. all-used held.tables m.written.lines kept puts file start (shown.versions.used t file reading start is goes lines);
+      unused = unused-behind w (held_up c g) (left (subst IsTrue (sym makes.writes.only.told) shown.tells)) held-facts held sound s m was (commit_at (again Landing) c) refl (λ i undo got. going.commit.keys i undo got) shown.versions.course (lines_with g.base p.flight) kept puts shown.versions.unused;
       waits = tt;
       waits_beside = λ t apart. ap (λ (b : Bool). cond b [] (shown.versions.waiting t)) apart;
       reads = λ t. refl;

@@ -12,6 +12,7 @@ use Rattle.line_versions.specs.Files.{snap_file}
 use Rattle.line_versions.specs.Versions.{Followed}
 use Rattle.stable_lines.specs.Journal.{lines_behind, next_number, next_slot, write_of}
 use Rattle.stable_lines.specs.Progress.{lines_with}
+use Rattle.stable_lines.specs.Slots.{named}
 use Rattle.line_seat.specs.declared.commit.CommitStage.{CommitStage}
 use Rattle.line_seat.specs.Groups.{group_lines}
 use Rattle.disk_seats.specs.Ledgers.{Commit, Ledger}
@@ -34,7 +35,7 @@ use Rattle.disk_store.specs.Sound.{IsSound}
 use Rattle.disk_store.specs.Commits.{is_flying, AreOfPages, KeepsCommits}
 use Rattle.commit_steps.specs.Turns.{group_for, WritesAside, MakesTurn}
 use Rattle.disk_store.proofs.Members.{set-beside}
-use Rattle.disk_store.proofs.Beside.{StaysWith, stays-with, rests}
+use Rattle.disk_store.proofs.Beside.{SameHeader, StaysWith, stays-with, rests}
 use Rattle.disk_store.proofs.Kept.{kept-stays}
 use Rattle.disk_store.proofs.Stepping.{ComesTo}
 use Rattle.disk_store.proofs.Passing.{aside-ceiling, slots-stay}
@@ -43,19 +44,19 @@ use Rattle.commit_steps.proofs.Planning.{lie-for, of-areas, waits-now}
 
 -- ---- members beside a commit
 
--- what a member that doesn't commit stands on, no disk says
-view-free : (st : MemberStage) (v w : View) (g : Ledger) (t : ℕ) (m : Member) → is_flying st ≡ false → StageStands st v g t m → StageStands st w g t m
-view-free stage.Outside v w g t m off stands = stands
-view-free (stage.Beginning ceiling) v w g t m off stands = stands
-view-free stage.Writing v w g t m off stands = stands
-view-free stage.Changing v w g t m off stands = stands
-view-free stage.Broken v w g t m off stands = stands
-view-free stage.Prepared v w g t m off stands = stands
-view-free (stage.Committing turn) v w g t m off stands = absurd (true≢false off)
-view-free stage.RollingBack v w g t m off stands = stands
-view-free stage.Closing v w g t m off stands = stands
-view-free stage.Reading v w g t m off stands = stands
-view-free (stage.Dead commits left) v w g t m off stands = stands
+-- what a member that doesn't commit stands on, no disk says but in its header
+view-free : (st : MemberStage) (v w : View) (g : Ledger) (t : ℕ) (m : Member) → SameHeader t v w → is_flying st ≡ false → StageStands st v g t m → StageStands st w g t m
+view-free stage.Outside v w g t m header off stands = stands
+view-free (stage.Beginning ceiling) v w g t m header off stands = stands
+view-free stage.Writing v w g t m header off stands = stands
+view-free stage.Changing v w g t m header off stands = record { begun = stands.begun; header = λ noted. ap named header ∙ stands.header noted }
+view-free stage.Broken v w g t m header off stands = stands
+view-free stage.Prepared v w g t m header off stands = stands
+view-free (stage.Committing turn) v w g t m header off stands = absurd (true≢false off)
+view-free stage.RollingBack v w g t m header off stands = stands
+view-free stage.Closing v w g t m header off stands = stands
+view-free stage.Reading v w g t m header off stands = stands
+view-free (stage.Dead commits left) v w g t m header off stands = stands
 
 pub not-flying : (b : Bool) → (b ≡ true → ⊥) → b ≡ false
 not-flying true no_way = absurd (no_way refl)
@@ -66,8 +67,8 @@ module _ (held : StoreMemory) (s : ℕ) (m : Member) (was : slice_get held.membe
   pub beside-rests : (t : ℕ) (x : Member) → (t == s) ≡ false → slice_get held.members t ≡ Some x → is_flying x.stage ≡ false
   beside-rests t x apart got = not-flying (is_flying x.stage) (λ flown. eqb-false t s apart (commits.alone t s x m got was flown flies))
 
-  pub beside-stands : (v w : View) (g h : Ledger) (t : ℕ) (x : Member) → (t == s) ≡ false → slice_get held.members t ≡ Some x → StaysWith t g h → StageStands x.stage v g t x → StageStands x.stage w h t x
-  beside-stands v w g h t x apart got stays stands = view-free x.stage v w h t x (beside-rests t x apart got) (stays-with v v g h t (λ file page is. refl) (λ classes lie. lie) stays x stands)
+  pub beside-stands : (v w : View) (g h : Ledger) (t : ℕ) (x : Member) → SameHeader t v w → (t == s) ≡ false → slice_get held.members t ≡ Some x → StaysWith t g h → StageStands x.stage v g t x → StageStands x.stage w h t x
+  beside-stands v w g h t x header apart got stays stands = view-free x.stage v w h t x header (beside-rests t x apart got) (stays-with v v g h t (λ file page is. refl) (λ classes lie. lie) stays x refl stands)
 
 -- ---- what the disk gives
 
@@ -116,7 +117,7 @@ module _ (v w : View) (held : StoreMemory) (s : ℕ) (m : Member) (was : slice_g
       facts = facts;
       limits = base.limits;
       none = λ t apart rested. rests v v g k t (λ file page is. refl) (λ classes lie. lie) (stays t apart) rested;
-      others = λ t x apart got stood. beside-stands held s m was (ap is_flying at) commits v w g k t x apart (sym (set-beside held.members s t (at_stage (stage.Committing next) m) apart) ∙ got) (stays t apart) stood;
+      others = λ t x apart got stood. beside-stands held s m was (ap is_flying at) commits v w g k t x (makes.journals shown.tells t 0) apart (sym (set-beside held.members s t (at_stage (stage.Committing next) m) apart) ∙ got) (stays t apart) stood;
       mine = mine;
       numbered = record {
         number = base.next_tsn ∙ shown.numbers.number;
@@ -131,6 +132,7 @@ module _ (v w : View) (held : StoreMemory) (s : ℕ) (m : Member) (was : slice_g
       readers = readers;
       slots = slots-aside v w shown.tells makes.writes shown.versions.course.followed held.limits.snaps held.slots shown.versions.slots;
       used = shown.versions.used;
+      unused = shown.versions.unused;
       waits = waits-now v held s m was turn at sound commits are h shown;
       waits_beside = λ t apart. refl;
       reads = λ t. refl;

@@ -7,7 +7,7 @@ use Rattle.rdb_outside.specs.Disk.{View, Pending}
 use Rattle.area_files.specs.Areas.{IsDataPage}
 use Rattle.line_store.specs.declared.answers.Fault.{Fault}
 use Rattle.line_store.specs.declared.answers.Fault.TheVariants.{Failed, Bad}
-use Rattle.stable_lines.specs.Slots.{Undo, IsAreaFile}
+use Rattle.stable_lines.specs.Slots.{Undo, ruj_file, IsAreaFile}
 use Rattle.stable_lines.specs.Progress.{Open, Flight}
 use Rattle.line_moves.specs.declared.places.Place.{Place}
 use Rattle.line_moves.specs.Calls.{OnlyWrites}
@@ -56,6 +56,7 @@ pub record WritesAside (v w : View) : Type 0 where
 pub record MakesTurn (v w : View) (turn : CommitTurn) (group : GroupPlace) (lines : ChangedLines) (classes : List ℕ) (result : Result CommitTurn Fault) : Type 0 where
   pub distinct : AreDistinct lines
   pub writes : WritesAside v w
+  pub journals : IsTrue v.tells → (member slot : ℕ) → w.content (ruj_file member) slot ≡ v.content (ruj_file member) slot
   pub failed : IsErrOf result Failed → Rose v.faults w.faults
   pub bad : (file : FileId) (slot : ℕ) → IsErrOf result (Bad file slot) → IsTrue v.tells → (g : Ledger) (member : ℕ) (transaction : Open) (all : List Undo) (flight : Flight) (by_area : ℕ → ℕ) → LedgerFacts v g
       → TurnFacts turn v g (plan_of member transaction all group lines classes flight) → HaveRoom (Pending v) by_area lines classes → ⊥

@@ -27,17 +27,22 @@ fn say(rt: &HostRuntime, disks: &mut Disks, text: &str) -> Result<(), NoMemory> 
     Ok(())
 }
 
-fn main(rt: HostRuntime) -> ExitCode {
-    let mut disks = Vec::new(rt.alloc());
+// Says each line, and gives the status.
+fn say_lines(rt: &HostRuntime, disks: &mut Disks) -> u8 {
     for line in rt.lines(rt.alloc()) {
         let Ok(line) = line else {
-            return ExitCode::from(3);
+            return 3;
         };
         let text = line.as_str();
         let _ = println!(rt; "{text}");
-        if say(&rt, &mut disks, text).is_err() {
-            return ExitCode::from(5);
+        if say(rt, disks, text).is_err() {
+            return 5;
         }
     }
-    ExitCode::from(0)
+    0
+}
+
+fn main(rt: HostRuntime) -> ExitCode {
+    let mut disks = Vec::new(rt.alloc());
+    ExitCode::from(say_lines(&rt, &mut disks))
 }

@@ -31,25 +31,40 @@ fn new_database_of(text: &str) -> Option<(&str, u32)> {
     }
 }
 
-fn main(rt: HostRuntime) -> ExitCode {
-    let Some(mut desk) = opened_anew(rt.alloc(), "", SNAPS) else {
-        return ExitCode::from(1);
-    };
-    for line in rt.lines(rt.alloc()) {
-        let Ok(line) = line else {
-            return ExitCode::from(3);
-        };
-        let text = line.as_str();
-        let _ = println!(rt; "{text}");
-        if let Some((fails, snaps)) = new_database_of(text) {
-            let Some(anew) = opened_anew(rt.alloc(), fails, snaps) else {
-                let _ = println!(rt; "  not opened");
-                continue;
-            };
-            desk = anew;
-        } else if !text.starts_with("!") {
-            say_line(&rt, &mut desk, text);
+// A new database in place of the last one, which stays where the new one isn't opened.
+fn begin(rt: &HostRuntime, desk: &mut Opened, fails: &str, snaps: u32) {
+    match opened_anew(rt.alloc(), fails, snaps) {
+        Some(anew) => *desk = anew,
+        None => {
+            let _ = println!(rt; "  not opened");
         }
     }
-    ExitCode::from(0)
+}
+
+// Echoes a line, and does what it says.
+fn do_line(rt: &HostRuntime, desk: &mut Opened, text: &str) {
+    let _ = println!(rt; "{text}");
+    if let Some((fails, snaps)) = new_database_of(text) {
+        begin(rt, desk, fails, snaps);
+    } else if !text.starts_with("!") {
+        say_line(rt, desk, text);
+    }
+}
+
+// Does each line, and gives the status.
+fn do_lines(rt: &HostRuntime, desk: &mut Opened) -> u8 {
+    for line in rt.lines(rt.alloc()) {
+        let Ok(line) = line else {
+            return 3;
+        };
+        do_line(rt, desk, line.as_str());
+    }
+    0
+}
+
+fn main(rt: HostRuntime) -> ExitCode {
+    match opened_anew(rt.alloc(), "", SNAPS) {
+        Some(mut desk) => ExitCode::from(do_lines(&rt, &mut desk)),
+        None => ExitCode::from(1),
+    }
 }

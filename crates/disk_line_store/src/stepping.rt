@@ -12,8 +12,7 @@ use disk_store::{Ceiling, Held, MemberStage, ask, draw};
 use line_store::{Fault, Stepped};
 use rdb_outside::Disk;
 use rdb_types::Session;
-use recovery_steps::recover;
-use store_endings::put_away;
+use recovery_steps::{put_away, recover};
 
 // Where a session's transaction is.
 fn stage_of(held: &Held, s: Session) -> MemberStage

@@ -19,7 +19,7 @@ use line_store::{ChangeStop, CommitStop, Fault, LineStore, Progress, ReadStop, S
 use line_view::{Known, Write};
 use rdb_outside::Disk;
 use rdb_types::{Dbkey, Moment, NoMemory, Session};
-use store_endings::{die, end_reading, roll_back};
+use recovery_steps::{die, end_reading, roll_back};
 
 /// A store of lines on a disk: the disk, and what is kept in memory beside it. What is left to do for a session is a number that a loop can count to.
 #[derive(Drop)]

@@ -183,6 +183,7 @@ module _ (v : View) (held : StoreMemory) (s : ℕ) (m : Member) (was : slice_get
         reading = λ t x start is reads seat. reading-stands t (t == s) refl x start is reads seat;
         only = are-readers;
         used = have-starts;
+        unused = shown.versions.unused;
       };
       space = record { limits = shown.space.limits; pages = shown.space.pages; snaps = shown.space.snaps; slots = shown.space.slots };
     }

@@ -1,7 +1,7 @@
 -- The members beside a session that makes a step.
-use Rattle.std.proofs.Common.{Some, ◌≡◌, ◌⊎◌, inl, inr, ℕ, ◌-◌, List, length, refl, sym, ap, subst, ◌∙◌}
+use Rattle.std.proofs.Common.{Some, ◌≡◌, ◌==◌, ◌⊎◌, inl, inr, ℕ, false, ◌-◌, List, length, refl, sym, ap, subst, ◌∙◌}
 use Rattle.rdb_outside.specs.Disk.{View, Pending}
-use Rattle.stable_lines.specs.Slots.{area_file}
+use Rattle.stable_lines.specs.Slots.{area_file, ruj_file, named}
 use Rattle.member_steps.specs.declared.committing.CommitTurn.{CommitTurn}
 use Rattle.member_steps.specs.declared.committing.CommitTurn.TheVariants.{Entering, Securing, Going}
 use Rattle.line_moves.specs.Lines.{ChangedLines}
@@ -18,7 +18,7 @@ use Rattle.disk_store.specs.declared.member.MemberStage.{MemberStage}
 use Rattle.disk_store.specs.declared.member.MemberStage.TheVariants as stage
 use Rattle.disk_store.specs.declared.member.Recovery.{Recovery}
 use Rattle.disk_store.specs.declared.member.Recovery.TheVariants as recovery
-use Rattle.disk_store.specs.Standing.{HasBegun, IsBroken, HasJournalled, IsCommitOf, HasEntered, TurnStands, IsUndone, RecoveryStands, StageStands}
+use Rattle.disk_store.specs.Standing.{HasBegun, IsJournalling, IsBroken, HasJournalled, IsCommitOf, HasEntered, TurnStands, IsUndone, RecoveryStands, StageStands}
 
 -- A member stands as before, or its before-images are stable now; the commit that is under way is as before.
 pub record StaysOf (t : ℕ) (g h : Ledger) : Type 0 where
@@ -43,6 +43,14 @@ pub record SameAreas (v w : View) : Type 0 where
 
 pub same-areas : (v : View) → SameAreas v v
 same-areas v = record { content = λ file slot. refl; pending = λ file slot x p. p }
+
+-- the header of a member's before-image journal reads as it did
+abbrev pub SameHeader : ℕ → View → View → Type 0
+SameHeader t v w = w.content (ruj_file t) 0 ≡ v.content (ruj_file t) 0
+
+-- those of all members but one
+abbrev pub SameHeaders : ℕ → View → View → Type 0
+SameHeaders s v w = (t : ℕ) → (t == s) ≡ false → SameHeader t v w
 
 -- pages keep the classes of their areas
 abbrev pub KeepClasses : View → View → Type 0
@@ -86,6 +94,9 @@ module _ (v w : View) (g h : Ledger) (t : ℕ) (same : SameSpaces v w) (keep : K
     | inr is ↦ record { transaction = has.transaction; all = has.all; stable = length has.all; stands = is ∙ ap gained has.stands; is_open = stays.going ∙ has.is_open; number = has.number; count = has.count; keys = has.keys }
   ]
 
+  journals : (m : Member) → SameHeader t v w → IsJournalling v g t m → IsJournalling w h t m
+  journals m same_one is = record { begun = begun m is.begun; header = λ noted. ap named same_one ∙ is.header noted }
+
   journalled : (m : Member) → HasJournalled g t m → HasJournalled h t m
   journalled m has = record { begun = begun m has.begun; all_written = has.all_written }
 
@@ -112,24 +123,32 @@ module _ (v w : View) (g h : Ledger) (t : ℕ) (same : SameSpaces v w) (keep : K
   recovers (recovery.Undoing left) m is = undone m left is
   recovers recovery.Restoring m is = undone m 0 is
 
-  stage-stays : (st : MemberStage) (m : Member) → StageStands st v g t m → StageStands st w h t m
-  stage-stays stage.Outside m is = rests is
-  stage-stays (stage.Beginning ceiling) m is = rests is
-  stage-stays stage.Writing m is = journalled m is
-  stage-stays stage.Changing m is = begun m is
-  stage-stays stage.Broken m is = broken-stays m is
-  stage-stays stage.Prepared m is = journalled m is
-  stage-stays (stage.Committing turn) m is = turns turn m is
-  stage-stays stage.RollingBack m is = rests is
-  stage-stays stage.Closing m is = rests is
-  stage-stays stage.Reading m is = rests is
-  stage-stays (stage.Dead commits left) m is = recovers left m is
+  stage-stays : (st : MemberStage) (m : Member) → (st ≡ stage.Changing → SameHeader t v w) → StageStands st v g t m → StageStands st w h t m
+  stage-stays stage.Outside m header is = rests is
+  stage-stays (stage.Beginning ceiling) m header is = rests is
+  stage-stays stage.Writing m header is = journalled m is
+  stage-stays stage.Changing m header is = journals m (header refl) is
+  stage-stays stage.Broken m header is = broken-stays m is
+  stage-stays stage.Prepared m header is = journalled m is
+  stage-stays (stage.Committing turn) m header is = turns turn m is
+  stage-stays stage.RollingBack m header is = rests is
+  stage-stays stage.Closing m header is = rests is
+  stage-stays stage.Reading m header is = rests is
+  stage-stays (stage.Dead commits left) m header is = recovers left m is
 
-  pub stays-with : (m : Member) → StageStands m.stage v g t m → StageStands m.stage w h t m
-  stays-with m is = stage-stays m.stage m is
+  pub stays-with : (m : Member) → SameHeader t v w → StageStands m.stage v g t m → StageStands m.stage w h t m
+  stays-with m header is = stage-stays m.stage m (λ at. header) is
+
+  -- its header may read otherwise where no before-image is to be written
+  pub stays-own : (m : Member) → (m.stage ≡ stage.Changing → SameHeader t v w) → StageStands m.stage v g t m → StageStands m.stage w h t m
+  stays-own m header is = stage-stays m.stage m header is
 
 pub same-classes : (v w : View) → SameAreas v w → KeepClasses v w
 same-classes v w same classes was file number x is plain p = was file number x is plain (same.pending file (number - 1) x p)
 
-pub stays-there : (v w : View) (g h : Ledger) (t : ℕ) → SameAreas v w → StaysOf t g h → (m : Member) → StageStands m.stage v g t m → StageStands m.stage w h t m
+pub stays-there : (v w : View) (g h : Ledger) (t : ℕ) → SameAreas v w → StaysOf t g h → (m : Member) → SameHeader t v w → StageStands m.stage v g t m → StageStands m.stage w h t m
 stays-there v w g h t same stays = stays-with v w g h t (λ file page is. same.content file (space_page_of page - 1)) (same-classes v w same) (record { standing = stays.standing; going = stays.going; commit = λ c own is. stays.commit ∙ is })
+
+-- a ledger that stays
+pub stays-here : (v w : View) (g : Ledger) (t : ℕ) → SameAreas v w → (m : Member) → (m.stage ≡ stage.Changing → SameHeader t v w) → StageStands m.stage v g t m → StageStands m.stage w g t m
+stays-here v w g t same = stays-own v w g g t (λ file page is. same.content file (space_page_of page - 1)) (same-classes v w same) (record { standing = inl refl; going = refl; commit = λ c own is. is })

@@ -30,7 +30,7 @@ use Rattle.disk_store.specs.declared.member.Member.{Member}
 use Rattle.disk_store.specs.declared.member.MemberStage.TheVariants as stage
 use Rattle.disk_store.specs.Memory.{StoreMemory, with_member}
 use Rattle.disk_store.specs.Seats.{seat_with}
-use Rattle.disk_store.specs.Standing.{HasBegun, HasJournalled, StageStands}
+use Rattle.disk_store.specs.Standing.{HasBegun, HasJournalled, IsJournalling, StageStands}
 use Rattle.disk_store.specs.Shown.{IsPushed, WaitPushed, WaitsAs, Shown, used_in, sight_of}
 use Rattle.disk_store.specs.Sound.{IsSound}
 use Rattle.disk_store.specs.Changing.{LaysOver, all_of, with_asides, changing_with}
@@ -141,14 +141,17 @@ module _ (v : View) (held : StoreMemory) (s : ℕ) (m : Member) (more : List Wri
       keys = λ i undo got. (laid m more written its over).keys i undo.key (b.keys i undo got);
     }
 
+    journals : IsJournalling v g s next
+    journals = record { begun = begun; header = λ noted. absurd (false≢true noted) }
+
     abbrev to-change : ComesTo v v behind s next g shown.versions.course shown.versions.waiting
     to-change = record {
       ledger = g;
       facts = shown.facts;
       limits = refl;
       none = λ t apart rests. rests;
-      others = λ t x apart got stood. stays-there v v g g t (same-areas v) (record { standing = inl refl; going = refl; commit = refl }) x stood;
-      mine = begun;
+      others = λ t x apart got stood. stays-there v v g g t (same-areas v) (record { standing = inl refl; going = refl; commit = refl }) x refl stood;
+      mine = journals;
       numbered = record { number = shown.numbers.number; first = shown.numbers.first; ceiling = shown.numbers.ceiling; group = shown.numbers.group };
       kept = kept-stays held.members s held.numbers.next held.numbers.written m next was (omega arith) shown.kept;
       tabled = tables-pass v v (passes-none v) g g held.tables refl shown.tables;
@@ -160,6 +163,7 @@ module _ (v : View) (held : StoreMemory) (s : ℕ) (m : Member) (more : List Wri
       waits_beside = λ t apart. refl;
       reads = λ t. refl;
       used = shown.versions.used;
+      unused = shown.versions.unused;
     }
 
   still : (ws : List Write) (start : Lines) → in_flight (seat_with m.stage ws start) ≡ None

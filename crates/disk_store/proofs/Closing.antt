@@ -11,7 +11,7 @@ use Rattle.line_store.specs.Calls.{Moves, IsDone, IsUndone}
 use Rattle.line_store.specs.Sights.{Does, seat_or}
 use Rattle.stable_lines.specs.Slots.{ruj_file}
 use Rattle.line_moves.specs.Calls.{OnlyWrites}
-use Rattle.disk_seats.specs.Ledgers.{resting, Ledger}
+use Rattle.disk_seats.specs.Ledgers.{resting, changing, Ledger}
 use Rattle.disk_seats.specs.Members.{LedgerFacts}
 use Rattle.disk_seats.proofs.Standings.{not_resting}
 use Rattle.member_memory.specs.Memory.{writes_in}
@@ -22,11 +22,11 @@ use Rattle.disk_store.specs.declared.member.Recovery.TheVariants as recovery
 use Rattle.disk_store.specs.Dying.{forgotten}
 use Rattle.disk_store.specs.Memory.{StoreMemory, with_member}
 use Rattle.disk_store.specs.Seats.{seat_with, stand_of, stand_at, IsAtStage}
-use Rattle.disk_store.specs.Standing.{StageStands}
+use Rattle.disk_store.specs.Standing.{IsJournalling, StageStands}
 use Rattle.disk_store.specs.Shown.{sight_of}
 use Rattle.disk_store.proofs.Stepping.{does-apart, becomes-member, space-same}
 use Rattle.disk_store.proofs.Kept.{kept-stays}
-use Rattle.disk_store.proofs.Passing.{passes-aside, aside-ceiling, same-ledger}
+use Rattle.disk_store.proofs.Passing.{passes-aside, aside-ceiling, headers-beside, same-ledger}
 use Rattle.disk_store.proofs.Failing.{KeepsIt}
 
 -- a stage whose transaction has ended, but for its header
@@ -61,6 +61,9 @@ module _ (st : MemberStage) (ended : IsEnded st) where
 
 module _ (v w : View) (held : StoreMemory) (s : ℕ) (m : Member) (was : slice_get held.members s ≡ Some m) (rests : (g : Ledger) → StageStands m.stage v g s m → g.standing s ≡ resting) (only : OnlyWrites (ruj_file s) 0 v w)
     (keeps : IsTrue v.tells → (g : Ledger) → LedgerFacts v g → g.standing s ≡ resting → 1 ≤ g.base.next_tsn → LedgerFacts w g) where
+  no-changes : (g : Ledger) → IsJournalling v g s m → g.standing s ≡ resting → ⊥
+  no-changes g is rested = let bad : changing is.begun.all is.begun.stable ≡ resting = sym is.begun.stands ∙ rested in cc
+
   pub keeps-it : KeepsIt v w held s m
   keeps-it = record {
     told = only.told;
@@ -69,6 +72,8 @@ module _ (v w : View) (held : StoreMemory) (s : ℕ) (m : Member) (was : slice_g
     leaves = only.leaves;
     passes = λ t. passes-aside v w (ruj_file s) 0 t (λ e. cc) (λ e. cc) only;
     ceiling = λ t was. aside-ceiling v w t (ruj_file s) 0 (λ e. cc) only held.numbers was;
+    headers = λ t. headers-beside v w s 0 t only;
+    own = λ h shown stands at. absurd (no-changes shown.ledger (subst (λ x. StageStands x v shown.ledger s m) at stands) (rests shown.ledger stands));
     facts = λ h shown stands. keeps shown.tells shown.ledger shown.facts (rests shown.ledger stands) (subst (λ (n : ℕ). 1 ≤ n) (sym shown.numbers.number) shown.numbers.first);
   }
 
@@ -77,7 +82,7 @@ module _ (v w : View) (held : StoreMemory) (s : ℕ) (m : Member) (was : slice_g
       Does s outside R (sight_of v held) (sight_of w (with_member s (forgotten stage.Outside m) held))
   does-leave R as-asked =
       does-apart v w held (record (with_member s (forgotten stage.Outside m) held) { numbers = held.numbers }) s m (forgotten stage.Outside m) was (becomes-member held held.numbers s (forgotten stage.Outside m)) (λ e. cc) only.told only.leaves
-      (λ h shown stands. same-ledger v w (keeps-it.passes shown.tells) held s (forgotten stage.Outside m) h shown (keeps-it.ceiling shown.tells shown.numbers.ceiling) (kept-stays held.members s held.numbers.next held.numbers.written m (forgotten stage.Outside m) was (omega arith) shown.kept) (keeps-it.facts h shown stands) (rests shown.ledger stands) tt)
+      (λ h shown stands. same-ledger v w (keeps-it.passes shown.tells) held s (forgotten stage.Outside m) h shown (keeps-it.headers shown.tells) (keeps-it.ceiling shown.tells shown.numbers.ceiling) (kept-stays held.members s held.numbers.next held.numbers.written m (forgotten stage.Outside m) was (omega arith) shown.kept) (keeps-it.facts h shown stands) (rests shown.ledger stands) tt)
       only.later only.no_fewer outside R refl (λ h shown stands c is. not_resting v shown.ledger s shown.facts (rests shown.ledger stands) c is) (λ h shown stands. record { lines = refl; commit = refl }) space-same
       (λ h g start related moves. as-asked h g start related.seat related.time_behind moves)
 

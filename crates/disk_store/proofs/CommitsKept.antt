@@ -1,8 +1,11 @@
 -- What memory keeps of commits, behind what its functions change.
 use Rattle.std.proofs.Common.{◌≡◌, ◌≤◌, ◌<◌, ◌+◌, ◌^◌, ◌==◌, ◌⊎◌, inl, inr, if◌then◌else◌, ℕ, zero, suc, Bool, true, false, List, [], length, sum_by, Option, Some, None, ⊎_elim, refl, sym, ap, subst, ◌∙◌, arith}
 use Rattle.std.specs.Prelude.{slice_get, slice_set}
-use Rattle.std.proofs.lemmas.Bool.{true≢false, eqb-true}
-use Rattle.std.proofs.lemmas.Option.{same_Some}
+use Rattle.std.proofs.lemmas.Bool.{true≢false, eqb-false, eqb-true}
+use Rattle.std.proofs.lemmas.Option.{same_Some, none-some}
+use Rattle.std.specs.FinMap.Entries.{find}
+use Rattle.rdb_types.specs.declared.keys.Dbkey.{Dbkey}
+use Rattle.rdb_types.specs.Order.{dbkey_order}
 use Rattle.rdb_page.specs.Page.{lines_of}
 use Rattle.line_store.specs.Seats.{IsMember, members, group_of, lines_written, set_aside}
 use Rattle.member_steps.specs.declared.committing.CommitTurn.{CommitTurn}
@@ -11,7 +14,7 @@ use Rattle.line_moves.proofs.Putting.{nat_cases}
 use Rattle.page_table.specs.Pages.{owner_in}
 use Rattle.page_table.specs.Scans.{IsNew}
 use Rattle.version_writing.specs.declared.snapshot_slots.SnapshotSlots.{SnapshotSlots}
-use Rattle.member_memory.specs.Memory.{AreKeysOf, writes_in}
+use Rattle.member_memory.specs.Memory.{Memory, AreKeysOf, writes_in}
 use Rattle.disk_store.specs.declared.member.Member.{Member}
 use Rattle.disk_store.specs.declared.member.MemberStage.{MemberStage}
 use Rattle.disk_store.specs.declared.member.MemberStage.TheVariants as stage
@@ -24,7 +27,7 @@ use Rattle.disk_store.specs.Seats.{seat_with, IsAtStage}
 use Rattle.disk_store.specs.Shown.{pages_of}
 use Rattle.disk_store.specs.Taken.{TakesIn}
 use Rattle.disk_store.specs.Landing.{PutsAll, group_behind, landed_with}
-use Rattle.disk_store.specs.Sound.{IsSound}
+use Rattle.disk_store.specs.Sound.{IsSound, IsUsedIn}
 use Rattle.disk_store.specs.Dying.{forgotten}
 use Rattle.disk_store.specs.Commits.{is_bound, is_free, is_flying, group_slots, due_if, due_of, due_in, HasClass, AreOfPages, IsReady, AreAlone, KeepsCommits, HasRoomFor, HasSome}
 use Rattle.disk_store.proofs.Members.{set-here, set-beside, get-within}
@@ -34,6 +37,9 @@ use Rattle.disk_store.proofs.Written.{lines-counted}
 use Rattle.disk_store.proofs.Tabled.{some-owner}
 use Rattle.disk_store.proofs.Sound.{KeepsPages, takes-keeps, sound-empty, sound-member, sound-tables, loses-lines}
 use Rattle.disk_store.proofs.LinesPut.{SamePages, all-same}
+use Rattle.disk_store.proofs.EverUsed.{all-back}
+use Rattle.disk_store.proofs.FoundLines.{found-there}
+use Rattle.disk_store.proofs.SlotsSound.{found-key}
 
 -- ---- sums over sessions
 
@@ -444,5 +450,17 @@ pub sound-landed : (held : StoreMemory) (s : ℕ) (m n : Member) (kept : Tables)
 sound-landed held s m n kept count was sound puts number slots none =
     let old = sound.each s m was in
     let with : IsSound (with_member s n held) = sound-member held s m n was sound (sound-empty held.tables n (subst (λ t. 1 ≤ t.number) (sym number) old.first) (subst (λ t. t.number < 2 ^ 62) (sym number) old.last) none) (loses-lines m n (ap (λ w. w.lines) none) slots) in
-    let all : IsSound (with_tables kept (with_member s n held)) = sound-tables (with_member s n held) kept (keeps-pages held.tables kept (all-same held.tables m.written.lines kept puts)) with in
+    let all : IsSound (with_tables kept (with_member s n held)) = sound-tables (with_member s n held) kept (keeps-pages held.tables kept (all-same held.tables m.written.lines kept puts)) (λ t i x key got at file used. used-before t i x key (t == s) refl got at file used) with in
     record { first = all.first; last = all.last; allowed = all.allowed; each = all.each; apart = all.apart; asides = all.asides }
+  where
+    -- the lines of the others aren't among its own
+    used-before : (t i : ℕ) (x : Member) (key : Dbkey) (b : Bool) → (t == s) ≡ b → slice_get (slice_set held.members s n) t ≡ Some x → slice_get x.written.keys i ≡ Some key → (file : ℕ) → IsUsedIn kept file key → IsUsedIn held.tables file key
+    used-before t i x key true same got at file used =
+        let one : n ≡ x = same_Some _ _ (sym (set-here held.members s n (get-within held.members s m was)) ∙ (ap (λ (u : ℕ). slice_get (slice_set held.members s n) u) (sym (eqb-true t s same)) ∙ got)) in
+        absurd (none-some key (ap (λ (w : Memory). slice_get w.keys i) (sym none) ∙ (ap (λ (y : Member). slice_get y.written.keys i) one ∙ at)))
+    used-before t i x key false apart got at file used =
+        let there : slice_get held.members t ≡ Some x = sym (set-beside held.members s t n apart) ∙ got in
+        let found = found-key held sound t x there i key at in
+        all-back held.tables m.written.lines kept puts file key
+        (λ k line is same. eqb-false t s apart (sound.apart t s x m key found.0 line.1 there was found.1 (ap (λ (q : Dbkey). find dbkey_order q m.written.lines) (sym same) ∙ found-there m.written.lines k line (sound.each s m was).keys.ordered is)))
+        used

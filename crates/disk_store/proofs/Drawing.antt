@@ -30,7 +30,7 @@ use Rattle.disk_store.specs.Seats.{seat_with, stand_of, stand_at}
 use Rattle.disk_store.specs.Standing.{HasJournalled, StageStands}
 use Rattle.disk_store.specs.Shown.{CeilingStands, Shown, sight_of}
 use Rattle.disk_store.proofs.Moving.{itself}
-use Rattle.disk_store.proofs.Beside.{StaysOf, stays-there}
+use Rattle.disk_store.proofs.Beside.{SameHeader, StaysOf, stays-there}
 use Rattle.disk_store.proofs.Stepping.{ComesTo, Becomes, does-step, space-same}
 use Rattle.disk_store.proofs.Passing.{Passes, tables-pass, slots-pass}
 
@@ -54,6 +54,8 @@ pub record Leads (v w : View) (held : StoreMemory) : Type 0 where
   pub no_fewer : v.faults ≤ w.faults
   pub leaves : IsTrue v.tells → LeavesOnly v w (λ image. IsPending v image ⊎ IsPending w image)
   pub passes : IsTrue v.tells → Passes v w
+  -- headers of before-image journals read as they did
+  pub headers : IsTrue v.tells → (t : ℕ) → SameHeader t v w
   pub facts : (h : Shelf) (shown : Shown v held h) → LedgerFacts w shown.ledger
 
 module _ (v w : View) (held : StoreMemory) (s ceiling : ℕ) (m : Member) (asked : Ceiling) (was : slice_get held.members s ≡ Some m) (is-member : IsMember s) (begins : m.stage ≡ stage.Beginning asked) (leads : Leads v w held)
@@ -126,7 +128,7 @@ module _ (v w : View) (held : StoreMemory) (s ceiling : ℕ) (m : Member) (asked
       facts = facts;
       limits = refl;
       none = λ t apart rests. ap (λ b. if b then changing [] 0 else g.standing t) apart ∙ rests;
-      others = λ t x apart got stands. stays-there v w g (begun_by s g) t p.areas (stays t apart) x stands;
+      others = λ t x apart got stands. stays-there v w g (begun_by s g) t p.areas (stays t apart) x (leads.headers shown.tells t) stands;
       mine = mine;
       numbered = record { number = ap (λ k. k + 1) shown.numbers.number; first = omega (arith, shown.numbers.first); ceiling = ceiling-behind; group = record { in_slot = shown.numbers.group.in_slot; numbered = shown.numbers.group.numbered } };
       kept = draws.free;
@@ -136,6 +138,7 @@ module _ (v w : View) (held : StoreMemory) (s ceiling : ℕ) (m : Member) (asked
       readers = member_begins w g held.limits.snaps shown.versions.course shown.versions.waiting s facts-there rests going (p.readers g held.limits.snaps shown.versions.course shown.versions.waiting shown.versions.readers);
       slots = slots-pass v w p shown.versions.course.followed held.limits.snaps held.slots shown.versions.slots;
       used = shown.versions.used;
+      unused = shown.versions.unused;
       waits = ap (λ b. if b then [] else shown.versions.waiting s) (itself s);
       waits_beside = λ t apart. ap (λ b. if b then [] else shown.versions.waiting t) apart;
       reads = λ t. refl;

@@ -47,7 +47,7 @@ module _ (v : View) (held : StoreMemory) (s : ℕ) (m : Member) (was : slice_get
   pub does-end-reading : Does s outside (Moves s outside) (sight_of v held) (sight_of v (with_member s n held))
   does-end-reading =
       does-step v v held (record (with_member s n held) { numbers = held.numbers }) s m n was (becomes-member held held.numbers s n) (λ e. cc) refl (none-leaves v)
-      (λ h shown stands. same-ledger v v (passes-none v) held s n h shown shown.numbers.ceiling (kept-stays held.members s held.numbers.next held.numbers.written m n was (omega arith) shown.kept) shown.facts (subst (λ x. StageStands x v shown.ledger s m) at stands) tt)
+      (λ h shown stands. same-ledger v v (passes-none v) held s n h shown (λ t apart. refl) shown.numbers.ceiling (kept-stays held.members s held.numbers.next held.numbers.written m n was (omega arith) shown.kept) shown.facts (subst (λ x. StageStands x v shown.ledger s m) at stands) tt)
       (omega arith) (omega arith) outside (Moves s outside) refl still (λ h shown stands. record { lines = refl; commit = refl }) space-same (λ h g from related moves. moves)
 
 pub kept-outside : (held mid : StoreMemory) (s : ℕ) (m : Member) (start : Start) → slice_get held.members s ≡ Some m → mid ≡ with_member s (keeping stage.Outside start m) held → IsAtStage mid.members s stage.Outside

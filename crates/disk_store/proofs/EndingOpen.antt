@@ -111,7 +111,7 @@ module _ (v : View) (held : StoreMemory) (s : ℕ) (m : Member) (was : slice_get
       facts = ended_facts v g s shown.facts (may g stands) (not_ending v g s shown.facts (may g stands));
       limits = refl;
       none = λ t apart rests. ap (λ b. if b then resting else g.standing t) apart ∙ rests;
-      others = λ t x apart got stands. stays-there v v g (ended_by s g) t (same-areas v) (stays t apart) x stands;
+      others = λ t x apart got stands. stays-there v v g (ended_by s g) t (same-areas v) (stays t apart) x refl stands;
       mine = rests-next (ended_by s g) rests;
       numbered = record { number = shown.numbers.number; first = shown.numbers.first; ceiling = shown.numbers.ceiling; group = record { in_slot = shown.numbers.group.in_slot; numbered = shown.numbers.group.numbered } };
       kept = kept-stays held.members s held.numbers.next held.numbers.written m n was (omega (arith, free)) shown.kept;
@@ -124,6 +124,7 @@ module _ (v : View) (held : StoreMemory) (s : ℕ) (m : Member) (was : slice_get
           shown.versions.readers;
       slots = still-held v held.limits.snaps held.slots shown.versions.course has.transaction.tsn.number shown.versions.slots shown.versions.readers.versions.files;
       used = shown.versions.used;
+      unused = shown.versions.unused;
       waits = waits-next (set_waiting s [] shown.versions.waiting);
       waits_beside = λ t apart. ap (λ b. if b then [] else shown.versions.waiting t) apart;
       reads = λ t. refl;

@@ -1,5 +1,5 @@
 -- A step that fails, or that comes to no other stage: the session stands as it did.
-use Rattle.std.proofs.Common.{◌≡◌, ◌≢◌, ◌≤◌, ◌⊎◌, ℕ, IsTrue, Some, inl, refl, sym, subst, arith}
+use Rattle.std.proofs.Common.{◌≡◌, ◌≢◌, ◌≤◌, ◌⊎◌, ℕ, IsTrue, Some, refl, sym, subst, arith}
 use Rattle.std.specs.Prelude.{slice_get}
 use Rattle.rdb_outside.specs.Disk.{View, LeavesOnly, IsPending}
 use Rattle.rdb_outside.specs.Causes.{Rose}
@@ -16,7 +16,7 @@ use Rattle.disk_store.specs.Standing.{StageStands}
 use Rattle.disk_store.specs.Shown.{CeilingStands, Shown, sight_of}
 use Rattle.disk_store.proofs.Members.{set-same}
 use Rattle.disk_store.proofs.Kept.{kept-stays}
-use Rattle.disk_store.proofs.Beside.{stays-there}
+use Rattle.disk_store.proofs.Beside.{SameHeader, SameHeaders, stays-here}
 use Rattle.disk_store.proofs.Stepping.{does-seated, becomes-member, space-same}
 use Rattle.disk_store.proofs.Passing.{Passes, same-ledger}
 
@@ -28,6 +28,9 @@ pub record KeepsIt (v w : View) (held : StoreMemory) (s : ℕ) (m : Member) : Ty
   pub leaves : IsTrue v.tells → LeavesOnly v w (λ image. IsPending v image ⊎ IsPending w image)
   pub passes : IsTrue v.tells → Passes v w
   pub ceiling : IsTrue v.tells → CeilingStands v held.numbers → CeilingStands w held.numbers
+  -- headers of others read as they did, and the session's own where it changes lines
+  pub headers : IsTrue v.tells → SameHeaders s v w
+  pub own : (h : Shelf) (shown : Shown v held h) → StageStands m.stage v shown.ledger s m → m.stage ≡ stage.Changing → SameHeader s v w
   pub facts : (h : Shelf) (shown : Shown v held h) → StageStands m.stage v shown.ledger s m → LedgerFacts w shown.ledger
 
 module _ (v w : View) (held : StoreMemory) (s : ℕ) (m : Member) (was : slice_get held.members s ≡ Some m) (writes : m.stage ≢ stage.Reading) (keeps : KeepsIt v w held s m) where
@@ -36,8 +39,8 @@ module _ (v w : View) (held : StoreMemory) (s : ℕ) (m : Member) (was : slice_g
   does-stay R as-asked =
       let does : Does s (stand_of (Some m)) R (sight_of v held) (sight_of w (record (with_member s m held) { numbers = held.numbers })) =
       does-seated v w held (record (with_member s m held) { numbers = held.numbers }) s m m was (becomes-member held held.numbers s m) writes keeps.told keeps.leaves
-      (λ h shown stands. let p = keeps.passes shown.tells in same-ledger v w p held s m h shown (keeps.ceiling shown.tells shown.numbers.ceiling) (kept-stays held.members s held.numbers.next held.numbers.written m m was (omega arith) shown.kept) (keeps.facts h shown stands)
-      (stays-there v w shown.ledger shown.ledger s p.areas (record { standing = inl refl; going = refl; commit = refl }) m stands) (shown.versions.waits s m was))
+      (λ h shown stands. let p = keeps.passes shown.tells in same-ledger v w p held s m h shown (keeps.headers shown.tells) (keeps.ceiling shown.tells shown.numbers.ceiling) (kept-stays held.members s held.numbers.next held.numbers.written m m was (omega arith) shown.kept) (keeps.facts h shown stands)
+      (stays-here v w shown.ledger s p.areas m (keeps.own h shown stands) stands) (shown.versions.waits s m was))
       keeps.later keeps.no_fewer (stand_of (Some m)) R refl
       (λ start. refl) (λ h shown stands. record { lines = refl; commit = refl }) space-same
       (λ h g start related moves. as-asked h g (subst (λ seat. Moves s seat h g) (sym related.seat) moves) related.shown.lines.faults related.faults_behind related.shown.lines.time related.time_behind) in

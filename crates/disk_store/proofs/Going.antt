@@ -100,7 +100,7 @@ module _ (v : View) (held : StoreMemory) (h : Shelf) (shown : Shown v held h) wh
   opens s m stage.Outside x goes = absurd (true≢false (sym goes))
   opens s m (stage.Beginning ceiling) x goes = absurd (true≢false (sym goes))
   opens s m stage.Writing x goes = begun s m x.begun
-  opens s m stage.Changing x goes = begun s m x
+  opens s m stage.Changing x goes = begun s m x.begun
   opens s m stage.Broken x goes = record { transaction = x.transaction; is_open = x.is_open; number = x.number }
   opens s m stage.Prepared x goes = begun s m x.begun
   opens s m (stage.Committing (Entering n)) x goes = begun s m x.journalled.begun

@@ -108,7 +108,7 @@ module _ (v : View) (held : StoreMemory) (h : Shelf) (shown : Shown v held h) wh
         by stage.Outside x = absurd (not_resting x)
         by (stage.Beginning ceiling) x = absurd (not_resting x)
         by stage.Writing x = absurd (not_changing x.begun.all x.begun.stable x.begun.stands)
-        by stage.Changing x = absurd (not_changing x.all x.stable x.stands)
+        by stage.Changing x = absurd (not_changing x.begun.all x.begun.stable x.begun.stands)
         by stage.Broken x = absurd (not_ending (g.standing s) refl x.may_end)
         by stage.Prepared x = absurd (not_changing x.begun.all x.begun.stable x.begun.stands)
         by (stage.Committing (Entering n)) x = absurd (not_changing x.journalled.begun.all x.journalled.begun.stable x.journalled.begun.stands)

@@ -30,7 +30,7 @@ use Rattle.disk_store.proofs.Moving.{itself}
 use Rattle.disk_store.proofs.Kept.{kept-stays}
 use Rattle.disk_store.proofs.Beside.{StaysWith, same-classes, stays-with}
 use Rattle.disk_store.proofs.Stepping.{ComesTo, does-moves, becomes-member, space-same}
-use Rattle.disk_store.proofs.Passing.{Passes, passes-reads, reads-leave, reads-ceiling, tables-pass, slots-pass}
+use Rattle.disk_store.proofs.Passing.{Passes, header-read, passes-reads, reads-leave, reads-ceiling, tables-pass, slots-pass}
 
 module _ (v w : View) (held : StoreMemory) (s : ℕ) (m : Member) (commits : Bool) (was : slice_get held.members s ≡ Some m) (at : m.stage ≡ stage.Dead commits recovery.Judging) (only : OnlyReads v w)
     (keeps : IsTrue v.tells → (g : Ledger) → LedgerFacts v g → LedgerFacts w g) (stable : IsTrue v.tells → IsStable w) where
@@ -117,7 +117,7 @@ module _ (v w : View) (held : StoreMemory) (s : ℕ) (m : Member) (commits : Boo
             facts = lost-now;
             limits = refl;
             none = λ t apart rests. beside-it t apart ∙ rests;
-            others = λ t x apart got stood. stays-with v w shown.ledger after t (λ file page is. it.areas.content file _) (same-classes v w it.areas) (stays t apart) x stood;
+            others = λ t x apart got stood. stays-with v w shown.ledger after t (λ file page is. it.areas.content file _) (same-classes v w it.areas) (stays t apart) x (header-read v w shown.tells only t) stood;
             mine = record { transaction = (c h shown stands).transaction; all = is.plan.all; stands = own; is_open = ap (λ k. shown.ledger.base.going k) (sym is.its) ∙ old.is.is_open; number = sym is.number; count = is.count; keys = is.keys };
             numbered = record { number = shown.numbers.number; first = shown.numbers.first; ceiling = reads-ceiling v w shown.tells only held.numbers shown.numbers.ceiling; group = shown.numbers.group };
             kept = kept-stays held.members s held.numbers.next held.numbers.written m n was (omega arith) shown.kept;
@@ -132,6 +132,7 @@ module _ (v w : View) (held : StoreMemory) (s : ℕ) (m : Member) (commits : Boo
             waits_beside = λ t apart. refl;
             reads = λ t. refl;
             used = shown.versions.used;
+            unused = shown.versions.unused;
           }
 
     fewer : (a b : ℕ) → a ≡ m.journalled + 4 → b ≡ m.journalled + 3 → b < a

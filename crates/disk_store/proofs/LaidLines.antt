@@ -1,5 +1,5 @@
 -- A memory stays sound behind writes that are laid over a session's lines.
-use Rattle.std.proofs.Common.{◌≡◌, ◌<◌, ◌+◌, ◌^◌, ◌==◌, ◌||◌, ℕ, suc, Bool, true, false, if◌then◌else◌, List, [], ◌∷◌, length, Option, Some, None, ◌⊎◌, inl, inr, refl, sym, ap, subst, ◌∙◌, arith}
+use Rattle.std.proofs.Common.{◌≡◌, ◌<◌, ◌+◌, ◌^◌, ◌==◌, ◌||◌, ℕ, suc, Bool, true, false, if◌then◌else◌, List, [], ◌∷◌, drop, length, Option, Some, None, ◌⊎◌, inl, inr, refl, sym, ap, subst, ◌∙◌, arith}
 use Rattle.std.specs.Prelude.{slice_get, option_map}
 use Rattle.std.specs.Ordering.{is_eq}
 use Rattle.std.specs.FinMap.Entries.{find}
@@ -22,7 +22,7 @@ use Rattle.member_memory.proofs.Rewriting.{rewritten_if, rewritten_by, found-rew
 use Rattle.disk_store.specs.declared.member.Member.{Member}
 use Rattle.disk_store.specs.declared.held.Tables.{Tables}
 use Rattle.disk_store.specs.Memory.{StoreMemory, with_member}
-use Rattle.disk_store.specs.Sound.{LiesIn, IsSoundMember, wanted_in, IsSound}
+use Rattle.disk_store.specs.Sound.{LiesIn, IsSoundMember, HasSlotsFor, wanted_in, IsSound}
 use Rattle.disk_store.specs.Changing.{HasPlace, IsFreeFor, AreFit, LaysOver, with_asides, changing_with}
 use Rattle.disk_store.proofs.Members.{set-either}
 use Rattle.disk_store.proofs.Sound.{sum-set}
@@ -87,8 +87,8 @@ module _ (h : StoreMemory) (s : ℕ) (m : Member) (more : List Write) (written :
         ],
       )
 
-  pub laid-member : (wanted : Wanted) → IsSoundMember h.tables (changing_with written wanted m)
-  laid-member wanted =
+  pub laid-member : (wanted : Wanted) → HasSlotsFor h.tables wanted (drop (length m.written.keys) written.keys) → IsSoundMember h.tables (changing_with written wanted m)
+  laid-member wanted enough =
       let its = sound.each s m was in
       record {
         first = its.first;
@@ -100,6 +100,7 @@ module _ (h : StoreMemory) (s : ℕ) (m : Member) (more : List Write) (written :
           | inr new ↦ ap (λ (l : Line). l.tsn) new.0
         ];
         lies = λ q line is. lies-now q line (laid-from q line is);
+        slots = enough;
       }
     where
       placed : AllPlaced h.tables more
@@ -133,15 +134,15 @@ module _ (h : StoreMemory) (s : ℕ) (m : Member) (more : List Write) (written :
       by false true = refl
       by false false = refl
 
-  pub laid-sound : (wanted : Wanted) → IsSound (record (with_member s (changing_with written wanted m) h) { slots = with_asides wanted h.slots })
-  laid-sound wanted =
+  pub laid-sound : (wanted : Wanted) → HasSlotsFor h.tables wanted (drop (length m.written.keys) written.keys) → IsSound (record (with_member s (changing_with written wanted m) h) { slots = with_asides wanted h.slots })
+  laid-sound wanted enough =
       let n : Member = changing_with written wanted m in
       record {
         first = sound.first;
         last = sound.last;
         allowed = sound.allowed;
         each = λ t x at. elim (set-either h.members s t n x at) [
-          | inl here ↦ subst (IsSoundMember h.tables) (sym here.1) (laid-member wanted)
+          | inl here ↦ subst (IsSoundMember h.tables) (sym here.1) (laid-member wanted enough)
           | inr off ↦ sound.each t x off
         ];
         apart = λ t u a b q x y at also has too. elim (set-either h.members s t n a at) [

@@ -1,4 +1,5 @@
 pub mod Members
+pub mod AtMost
 pub mod Sound
 pub mod Readers
 pub mod Moving
@@ -22,6 +23,7 @@ pub mod Reading
 pub mod FoundLines
 pub mod LaidLines
 pub mod SlotsSound
+mod Enough
 pub mod Changed
 pub mod Stopping
 pub mod SpentSlots
@@ -38,6 +40,8 @@ pub mod Judged
 pub mod FirstSound
 pub mod Ordered
 pub mod LinesPut
+pub mod EverUsed
+pub mod Unused
 pub mod Landed
 pub mod CommitsKept
 pub mod Ready

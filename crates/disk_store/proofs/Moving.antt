@@ -151,6 +151,7 @@ module _ (v : View) (held : StoreMemory) (s : ℕ) (m : Member) (next : MemberSt
       reading = λ t x start is reads seat. reading-stands h shown t (t == s) refl x start is reads seat;
       only = readers-still s shown.versions.course held.members behind.members beside shown.versions.only;
       used = starts-still s shown.versions.course held.tables shown.versions.used;
+      unused = shown.versions.unused;
     };
     space = record { limits = shown.space.limits; pages = shown.space.pages; snaps = shown.space.snaps; slots = shown.space.slots };
   }

@@ -1,9 +1,10 @@
 -- A device call that writes no area file and no snapshot file, and what stays shown behind it.
 use Rattle.std.proofs.Common.{◌≡◌, ◌≢◌, ◌≤◌, ◌-◌, ◌+◌, ℕ, IsTrue, List, ◌⊎◌, inl, refl, sym, ap, subst, arith}
 use Rattle.std.specs.Prelude.{slice_set}
+use Rattle.std.proofs.lemmas.Bool.{eqb-false}
 use Rattle.rdb_types.specs.declared.file.FileId.{FileId}
-use Rattle.rdb_types.specs.declared.file.FileKind.TheVariants.{Area, Snap, Root as RootKind}
-use Rattle.rdb_outside.specs.Disk.{View, Pending, LeavesOnly, IsPending, OnlyReads}
+use Rattle.rdb_types.specs.declared.file.FileKind.TheVariants.{Area, Ruj, Snap, Root as RootKind}
+use Rattle.rdb_outside.specs.Disk.{View, LeavesOnly, IsPending, OnlyReads}
 use Rattle.rdb_outside.specs.Moments.{weaker, started, each_slot}
 use Rattle.root_file.specs.Root.{IsRoot}
 use Rattle.new_database.specs.Maker.{root_file}
@@ -11,7 +12,7 @@ use Rattle.snapshot_file.specs.Entry.{IsEntry}
 use Rattle.line_versions.specs.Files.{snap_file}
 use Rattle.line_versions.specs.Course.{Course}
 use Rattle.line_versions.specs.Versions.{Followed}
-use Rattle.stable_lines.specs.Slots.{area_file}
+use Rattle.stable_lines.specs.Slots.{area_file, ruj_file}
 use Rattle.line_moves.specs.Calls.{OnlyWrites}
 use Rattle.line_store.specs.Shelves.{Shelf}
 use Rattle.disk_seats.specs.Ledgers.{Ledger}
@@ -29,7 +30,7 @@ use Rattle.disk_store.specs.Memory.{StoreMemory, with_member}
 use Rattle.disk_store.specs.Numbers.{kept_in}
 use Rattle.disk_store.specs.Standing.{StageStands}
 use Rattle.disk_store.specs.Shown.{CeilingStands, TablesStand, WaitsAs, Shown, pages_of}
-use Rattle.disk_store.proofs.Beside.{SameAreas, same-areas, same-classes, stays-there}
+use Rattle.disk_store.proofs.Beside.{SameAreas, SameHeader, SameHeaders, same-areas, same-classes, stays-there}
 use Rattle.disk_store.proofs.Stepping.{ComesTo}
 
 pub record Passes (v w : View) : Type 0 where
@@ -65,6 +66,24 @@ passes-aside v w file slot t not-snap not-area only = record {
   snaps = λ f i. only.content t (snap_file f) i (λ same at. not-snap (ap (λ (x : FileId). x.kind) (sym same)));
   readers = λ g limit course waiting was. still_aside v w limit course waiting g t was file slot not-snap not-area only;
 }
+
+-- ---- headers of before-image journals
+
+pub header-read : (v w : View) → IsTrue v.tells → OnlyReads v w → (t : ℕ) → SameHeader t v w
+header-read v w told only t = (only.keeps told).content (ruj_file t) 0
+
+-- another file is written
+pub header-beside : (v w : View) (file : FileId) (slot : ℕ) → IsTrue v.tells → file.kind ≢ Ruj → OnlyWrites file slot v w → (t : ℕ) → SameHeader t v w
+header-beside v w file slot told other only t = only.content told (ruj_file t) 0 (λ same at. other (ap (λ (f : FileId). f.kind) (sym same)))
+
+-- the journal of a member is written
+pub headers-beside : (v w : View) (s slot : ℕ) → IsTrue v.tells → OnlyWrites (ruj_file s) slot v w → SameHeaders s v w
+headers-beside v w s slot told only t apart = only.content told (ruj_file t) 0 (λ same at. eqb-false t s apart (ap (λ (f : FileId). f.number) same))
+
+pub headers-all : (v w : View) (s : ℕ) → ((t : ℕ) → SameHeader t v w) → SameHeaders s v w
+headers-all v w s each t apart = each t
+
+-- ---- what a crash leaves
 
 pub reads-leave : (v w : View) → OnlyReads v w → IsTrue v.tells → LeavesOnly v w (λ image. IsPending v image ⊎ IsPending w image)
 reads-leave v w only t = weaker v w (IsPending v) (λ image. IsPending v image ⊎ IsPending w image) (λ image p. inl p) (only.leaves t)
@@ -111,14 +130,14 @@ module _ (v w : View) (passes : Passes v w) where
   slots-pass followed limit slots was = slots-stay v w passes.snaps followed limit slots was
 
   -- the ledger and the course stay, and the session comes to another member
-  abbrev pub same-ledger : (held : StoreMemory) (s : ℕ) (n : Member) (h : Shelf) (shown : Shown v held h) → CeilingStands w held.numbers → held.numbers.next + kept_in (slice_set held.members s n) ≤ held.numbers.written → LedgerFacts w shown.ledger
+  abbrev pub same-ledger : (held : StoreMemory) (s : ℕ) (n : Member) (h : Shelf) (shown : Shown v held h) → SameHeaders s v w → CeilingStands w held.numbers → held.numbers.next + kept_in (slice_set held.members s n) ≤ held.numbers.written → LedgerFacts w shown.ledger
       → StageStands n.stage w shown.ledger s n → WaitsAs n.stage shown.versions.waiting s n → ComesTo v w (record (with_member s n held) { numbers = held.numbers }) s n shown.ledger shown.versions.course shown.versions.waiting
-  same-ledger held s n h shown ceiling kept facts mine waits = record {
+  same-ledger held s n h shown headers ceiling kept facts mine waits = record {
     ledger = shown.ledger;
     facts = facts;
     limits = refl;
     none = λ t apart rests. rests;
-    others = λ t x apart got stands. stays-there v w shown.ledger shown.ledger t passes.areas (record { standing = inl refl; going = refl; commit = refl }) x stands;
+    others = λ t x apart got stands. stays-there v w shown.ledger shown.ledger t passes.areas (record { standing = inl refl; going = refl; commit = refl }) x (headers t apart) stands;
     mine = mine;
     numbered = record { number = shown.numbers.number; first = shown.numbers.first; ceiling = ceiling; group = shown.numbers.group };
     kept = kept;
@@ -128,6 +147,7 @@ module _ (v w : View) (passes : Passes v w) where
     readers = passes.readers shown.ledger held.limits.snaps shown.versions.course shown.versions.waiting shown.versions.readers;
     slots = slots-pass shown.versions.course.followed held.limits.snaps held.slots shown.versions.slots;
     used = shown.versions.used;
+    unused = shown.versions.unused;
     waits = waits;
     waits_beside = λ t apart. refl;
     reads = λ t. refl;

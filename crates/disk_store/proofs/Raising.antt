@@ -30,10 +30,10 @@ use Rattle.disk_store.specs.Standing.{StageStands}
 use Rattle.disk_store.specs.Shown.{CeilingStands, Shown, sight_of}
 use Rattle.disk_store.proofs.Kept.{kept-set}
 use Rattle.disk_store.proofs.Stepping.{ComesTo, Becomes, does-apart, space-same}
-use Rattle.disk_store.proofs.Passing.{Passes, passes-none, passes-aside, passes-reads, none-leaves, reads-leave, tables-pass, slots-pass, reads-ceiling}
+use Rattle.disk_store.proofs.Passing.{Passes, header-beside, header-read, headers-all, passes-none, passes-aside, passes-reads, none-leaves, reads-leave, tables-pass, slots-pass, reads-ceiling}
 use Rattle.disk_store.proofs.Failing.{KeepsIt}
 use Rattle.disk_store.proofs.Drawing.{MayDraw, Leads}
-use Rattle.disk_store.proofs.Beside.{stays-there}
+use Rattle.disk_store.proofs.Beside.{SameHeader, stays-there}
 
 -- ---- numbers
 
@@ -85,6 +85,7 @@ leads-read v w held only keeps = record {
   no_fewer = only.no_fewer;
   leaves = reads-leave v w only;
   passes = λ t. passes-reads v w t only;
+  headers = λ told t. header-read v w told only t;
   facts = λ h shown. keeps shown.tells shown.ledger shown.facts;
 }
 
@@ -136,7 +137,7 @@ module _ (v w : View) (held : StoreMemory) (s ceiling : ℕ) (m : Member) (was :
       facts = leads.facts h shown;
       limits = refl;
       none = λ t apart rests. rests;
-      others = λ t x apart got stood. stays-there v w g g t p.areas (record { standing = inl refl; going = refl; commit = refl }) x stood;
+      others = λ t x apart got stood. stays-there v w g g t p.areas (record { standing = inl refl; going = refl; commit = refl }) x (leads.headers shown.tells t) stood;
       mine = rests g stands;
       numbered = record { number = shown.numbers.number; first = shown.numbers.first; ceiling = it.stands; group = shown.numbers.group };
       kept = kept-now;
@@ -149,6 +150,7 @@ module _ (v w : View) (held : StoreMemory) (s ceiling : ℕ) (m : Member) (was :
       waits_beside = λ t apart. refl;
       reads = λ t. refl;
       used = shown.versions.used;
+      unused = shown.versions.unused;
     }
 
   abbrev becomes : Becomes held behind s n
@@ -174,7 +176,7 @@ module _ (v w : View) (held : StoreMemory) (s ceiling : ℕ) (m : Member) (was :
 
 -- nothing is written
 pub leads-nowhere : (v : View) (held : StoreMemory) → Leads v v held
-leads-nowhere v held = record { told = refl; later = omega arith; no_fewer = omega arith; leaves = none-leaves v; passes = λ t. passes-none v; facts = λ h shown. shown.facts }
+leads-nowhere v held = record { told = refl; later = omega arith; no_fewer = omega arith; leaves = none-leaves v; passes = λ t. passes-none v; headers = λ told t. refl; facts = λ h shown. shown.facts }
 
 -- another raised it, and kept are few
 pub raised-before : (v : View) (held : StoreMemory) → kept_in held.members ≤ 17 → held.numbers.ceiling < held.numbers.written → (h : Shelf) → Shown v held h → IsRaisedTo v v held held.numbers.written
@@ -202,8 +204,11 @@ module _ (v w : View) (held : StoreMemory) (root : Root) (only : OnlyWrites root
   passes-root : IsTrue v.tells → Passes v w
   passes-root t = passes-aside v w root_file 0 t (λ e. cc) (λ e. cc) only
 
+  header-root : IsTrue v.tells → (t : ℕ) → SameHeader t v w
+  header-root told t = header-beside v w root_file 0 told (λ e. cc) only t
+
   pub leads-root : Leads v w held
-  leads-root = record { told = only.told; later = only.later; no_fewer = only.no_fewer; leaves = only.leaves; passes = passes-root; facts = facts-now }
+  leads-root = record { told = only.told; later = only.later; no_fewer = only.no_fewer; leaves = only.leaves; passes = passes-root; headers = header-root; facts = facts-now }
 
   -- where the write failed reads give the old root or this one
   pub keeps-root : (s : ℕ) (m : Member) → (IsTrue w.tells → LeftNow w w.content) → KeepsIt v w held s m
@@ -219,6 +224,8 @@ module _ (v w : View) (held : StoreMemory) (root : Root) (only : OnlyWrites root
       below = stands.below;
       raised = stands.raised;
     };
+    headers = λ t. headers-all v w s (header-root t);
+    own = λ h shown stands at. header-root shown.tells s;
     facts = λ h shown stands. facts-now h shown;
   }
 

@@ -25,7 +25,7 @@ use Rattle.disk_store.specs.Memory.{StoreMemory}
 use Rattle.disk_store.specs.Seats.{stand_at}
 use Rattle.disk_store.specs.Shown.{Sits, Shown, sight_of}
 use Rattle.disk_store.proofs.Beside.{stays-there}
-use Rattle.disk_store.proofs.Passing.{Passes, passes-reads, reads-leave, reads-ceiling, tables-pass, slots-pass}
+use Rattle.disk_store.proofs.Passing.{Passes, header-read, passes-reads, reads-leave, reads-ceiling, tables-pass, slots-pass}
 use Rattle.disk_store.proofs.Stepping.{space-same}
 
 module _ (v w : View) (held : StoreMemory) (s : ℕ) (reads : OnlyReads v w) where
@@ -48,7 +48,7 @@ module _ (v w : View) (held : StoreMemory) (s : ℕ) (reads : OnlyReads v w) whe
 
     sits-still : (t : ℕ) (x : Option Member) (seat : Seat) → Sits v g t x seat → Sits w g t x seat
     sits-still t None seat sits = sits
-    sits-still t (Some x) seat sits = record { start = sits.start; is = sits.is; stands = stays-there v w g g t p.areas (record { standing = inl refl; going = refl; commit = refl }) x sits.stands }
+    sits-still t (Some x) seat sits = record { start = sits.start; is = sits.is; stands = stays-there v w g g t p.areas (record { standing = inl refl; going = refl; commit = refl }) x (header-read v w shown.tells reads t) sits.stands }
 
     shown-after : Shown w held after
     shown-after = record {
@@ -72,6 +72,7 @@ module _ (v w : View) (held : StoreMemory) (s : ℕ) (reads : OnlyReads v w) whe
         reading = shown.versions.reading;
         only = shown.versions.only;
         used = shown.versions.used;
+        unused = shown.versions.unused;
       };
       space = record { limits = shown.space.limits; pages = shown.space.pages; snaps = shown.space.snaps; slots = shown.space.slots };
     }

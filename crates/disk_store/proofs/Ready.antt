@@ -34,7 +34,7 @@ module _ (v : View) (held : StoreMemory) (s : ℕ) (m n : Member) (was : slice_g
 
   ready : Does s (prepared []) (Prepares s) (sight_of v held) (sight_of v (with_member s k held))
   ready = does-step v v held (record (with_member s k held) { numbers = held.numbers }) s m k was (becomes-member held held.numbers s k) (λ e. cc) refl (none-leaves v)
-      (λ h shown stands. same-ledger v v (passes-none v) held s k h shown shown.numbers.ceiling (kept-stays held.members s held.numbers.next held.numbers.written m k was (omega arith) shown.kept) shown.facts (journalled shown.ledger (subst (λ st. StageStands st v shown.ledger s m) at stands)) (subst (λ st. WaitsAs st shown.versions.waiting s m) at (shown.versions.waits s m was)))
+      (λ h shown stands. same-ledger v v (passes-none v) held s k h shown (λ t apart. refl) shown.numbers.ceiling (kept-stays held.members s held.numbers.next held.numbers.written m k was (omega arith) shown.kept) shown.facts (journalled shown.ledger (subst (λ st. StageStands st v shown.ledger s m) at stands)) (subst (λ st. WaitsAs st shown.versions.waiting s m) at (shown.versions.waits s m was)))
       (omega arith) (omega arith) (prepared []) (Prepares s) refl
       (λ ws start. ap (λ st. in_flight (seat_with st ws start)) at) (λ h shown stands. record { lines = refl; commit = refl }) space-same
       (λ h g start related moves. subst (λ seat. Moves s seat h g) (sym (ap prepared_by related.seat ∙ prepared-now m (writes_in m.written.lines) start writes)) moves)

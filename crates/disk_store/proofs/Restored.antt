@@ -26,7 +26,7 @@ use Rattle.disk_store.proofs.Moving.{itself}
 use Rattle.disk_store.proofs.Kept.{kept-stays}
 use Rattle.disk_store.proofs.Beside.{StaysOf, stays-there}
 use Rattle.disk_store.proofs.Stepping.{ComesTo, does-apart, becomes-member, space-same}
-use Rattle.disk_store.proofs.Passing.{Passes, passes-reads, reads-leave, reads-ceiling, tables-pass, slots-pass}
+use Rattle.disk_store.proofs.Passing.{Passes, header-read, headers-all, passes-reads, reads-leave, reads-ceiling, tables-pass, slots-pass}
 use Rattle.disk_store.proofs.Failing.{KeepsIt}
 use Rattle.disk_store.proofs.EndingOpen.{pushed-by, its, none-left, still-held}
 
@@ -39,6 +39,8 @@ keeps-read v w held s m only keeps = record {
   leaves = reads-leave v w only;
   passes = λ t. passes-reads v w t only;
   ceiling = λ t was. reads-ceiling v w t only held.numbers was;
+  headers = λ t. headers-all v w s (header-read v w t only);
+  own = λ h shown stands at. header-read v w shown.tells only s;
   facts = λ h shown stands. keeps shown.tells shown.ledger shown.facts;
 }
 
@@ -82,7 +84,7 @@ module _ (v w : View) (held : StoreMemory) (s : ℕ) (m : Member) (commits : Boo
       facts = undone_facts w g facts (stable shown.tells) s u.all u.stands;
       limits = refl;
       none = λ t apart rests. ap (λ b. if b then resting else g.standing t) apart ∙ rests;
-      others = λ t x apart got stood. stays-there v w g (ended_by s g) t p.areas (stays t apart) x stood;
+      others = λ t x apart got stood. stays-there v w g (ended_by s g) t p.areas (stays t apart) x (header-read v w shown.tells only t) stood;
       mine = ap (λ b. if b then resting else g.standing s) (itself s);
       numbered = record { number = shown.numbers.number; first = shown.numbers.first; ceiling = reads-ceiling v w shown.tells only held.numbers shown.numbers.ceiling; group = record { in_slot = shown.numbers.group.in_slot; numbered = shown.numbers.group.numbered } };
       kept = kept-stays held.members s held.numbers.next held.numbers.written m n was (omega arith) shown.kept;
@@ -95,6 +97,7 @@ module _ (v w : View) (held : StoreMemory) (s : ℕ) (m : Member) (commits : Boo
           (p.readers g held.limits.snaps course shown.versions.waiting shown.versions.readers);
       slots = still-held w held.limits.snaps held.slots course u.transaction.tsn.number held-still shown.versions.readers.versions.files;
       used = shown.versions.used;
+      unused = shown.versions.unused;
       waits = tt;
       waits_beside = λ t apart. ap (λ b. if b then [] else shown.versions.waiting t) apart;
       reads = λ t. refl;

@@ -21,8 +21,8 @@ use Rattle.member_memory.proofs.Laying.{same-lines}
 use Rattle.committed_lines.proofs.Nowhere.{nowhere}
 use Rattle.committed_tables.specs.Tables.{WereUsed}
 use Rattle.committed_tables.proofs.EverUsed.{used_begin}
-use Rattle.seen_lines.specs.Seen as seen
-use Rattle.seen_lines.proofs.Gathered.{in_area, in_order}
+use Rattle.reader_lines.specs.seen_lines.Seen as seen
+use Rattle.reader_lines.proofs.seen_lines.Gathered.{in_area, in_order}
 use Rattle.reader_lines.specs.Readers.{IsReader}
 use Rattle.reader_lines.proofs.Unseen.{unseen_nowhere}
 use Rattle.disk_store.specs.declared.member.Member.{Member}

@@ -1,5 +1,5 @@
 -- A memory stays sound where slots are taken of those that are set aside for a session, or are given back, and where the chain of one of its lines is another.
-use Rattle.std.proofs.Common.{◌≡◌, ◌≢◌, ◌≤◌, ◌<◌, ◌+◌, ◌-◌, ◌^◌, ◌==◌, ◌⊎◌, inl, inr, ℕ, zero, suc, Bool, true, false, if◌then◌else◌, cond, length, List, Some, refl, sym, ap, subst, ◌∙◌, arith}
+use Rattle.std.proofs.Common.{◌≡◌, ◌≢◌, ◌≤◌, ◌<◌, ◌+◌, ◌-◌, ◌^◌, ◌==◌, ◌⊎◌, inl, inr, ℕ, zero, suc, Bool, true, false, if◌then◌else◌, cond, drop, length, List, ◌∷◌, Some, refl, sym, ap, subst, ◌∙◌, arith}
 use Rattle.std.specs.Prelude.{slice_get}
 use Rattle.std.specs.Ordering.{is_eq}
 use Rattle.std.specs.FinMap.Entries.{find, find-put}
@@ -22,9 +22,10 @@ use Rattle.member_memory.proofs.Growing.{has-it, tied}
 use Rattle.disk_store.specs.declared.member.Member.{Member}
 use Rattle.disk_store.specs.declared.member.MemberStage.TheVariants as stage
 use Rattle.disk_store.specs.declared.held.Tables.{Tables}
-use Rattle.disk_store.specs.ChangeSteps.{HasAside, IsNext, Rechains, TakesAside, rechained, no_slots, one_less, spent, without_asides}
+use Rattle.disk_store.specs.ChangeSteps.{IsNext, Rechains, TakesAside, rechained, no_slots, one_less, spent, without_asides}
 use Rattle.disk_store.specs.Memory.{StoreMemory, with_member}
-use Rattle.disk_store.specs.Sound.{LiesIn, IsSoundMember, wanted_in, IsSound}
+use Rattle.disk_store.specs.Sound.{LiesIn, IsSoundMember, IsUsedIn, AtMost, HasSlotsFor, wanted_in, IsSound}
+use Rattle.disk_store.proofs.AtMost.{at-most-behind, at-most-less, drop-first, drop-through}
 use Rattle.disk_store.proofs.Changed.{some-found}
 use Rattle.disk_store.proofs.Sound.{Lessens, sound-member, sum-set}
 
@@ -42,9 +43,6 @@ next-its members s key m was next =
       subst (λ (x : Member). x.stage ≡ stage.Changing) one next.at,
       subst (λ (x : Member). slice_get x.written.keys x.pushed ≡ Some key) one next.next,
     )
-
-pub aside-its : (members : List Member) (s file : ℕ) (m : Member) → slice_get members s ≡ Some m → HasAside members s file → 1 ≤ wanted_in file m.aside
-aside-its members s file m was has = subst (λ (x : Member). 1 ≤ wanted_in file x.aside) (same_Some has.member m (sym has.is ∙ was)) has.some
 
 -- ---- what is wanted of a file
 
@@ -153,6 +151,41 @@ sound-spent v w h s m n key chain slots takes is some aside was sound its lines 
     (record { lines = lines; asides = λ file. subst (λ (x : Wanted). wanted_in file x ≤ wanted_in file m.aside) (sym aside) (spent-no-more chain (snap_of key) m.aside file) })
     (subst (λ (x : Wanted). KeepsAsides m.aside x h.slots slots) (sym aside) (spent-keeps chain (snap_of key) m.aside h.slots slots is some takes.keeps takes.others takes.spends))
 
+-- ---- the slots that are left for the lines that aren't pushed aside yet
+
+-- none is wanted where no line is left
+pub slots-through : (tables : Tables) (aside : Wanted) (keys : List Dbkey) → HasSlotsFor tables aside (drop (length keys) keys)
+slots-through tables aside keys file is = subst (λ (ks : List Dbkey). AtMost (IsUsedIn tables file) (wanted_in file aside) ks) (sym (drop-through keys)) tt
+
+module _ (tables : Tables) (m : Member) (key : Dbkey) (next : slice_get m.written.keys m.pushed ≡ Some key) (was : HasSlotsFor tables m.aside (drop m.pushed m.written.keys)) where
+  left-behind : (file : ℕ) → IsAreaFile file → AtMost (IsUsedIn tables file) (wanted_in file m.aside) (key ∷ drop (m.pushed + 1) m.written.keys)
+  left-behind file is = subst (λ (ks : List Dbkey). AtMost (IsUsedIn tables file) (wanted_in file m.aside) ks) (drop-first m.written.keys m.pushed key next) (was file is)
+
+  -- the next line is passed
+  pub slots-passed : HasSlotsFor tables m.aside (drop (m.pushed + 1) m.written.keys)
+  slots-passed file is = at-most-behind (IsUsedIn tables file) (wanted_in file m.aside) key (drop (m.pushed + 1) m.written.keys) (left-behind file is)
+
+  -- it was used, so a slot is set aside for it
+  pub slot-there : (file : ℕ) → IsAreaFile file → IsUsedIn tables file key → 1 ≤ wanted_in file m.aside
+  slot-there file is used = (at-most-less (IsUsedIn tables file) (wanted_in file m.aside) key (drop (m.pushed + 1) m.written.keys) used (left-behind file is)).0
+
+  -- and it may take that
+  pub slots-spent : (f chain : ℕ) → IsAreaFile f → IsUsedIn tables f key → HasSlotsFor tables (spent chain f m.aside) (drop (m.pushed + 1) m.written.keys)
+  slots-spent f chain of used file is = by (chain == 0)
+    where
+      fewer : (n : ℕ) → n ≡ wanted_in file m.aside - 1 → file ≡ f → AtMost (IsUsedIn tables file) n (drop (m.pushed + 1) m.written.keys)
+      fewer n same here = subst (λ (k : ℕ). AtMost (IsUsedIn tables file) k (drop (m.pushed + 1) m.written.keys)) (sym same)
+          (at-most-less (IsUsedIn tables file) (wanted_in file m.aside) key (drop (m.pushed + 1) m.written.keys) (subst (λ (k : ℕ). IsUsedIn tables k key) (sym here) used) (left-behind file is)).1
+
+      by : (b : Bool) → AtMost (IsUsedIn tables file) (wanted_in file (if b then m.aside else one_less f m.aside)) (drop (m.pushed + 1) m.written.keys)
+      by true = slots-passed file is
+      by false = elim (nat_cases file f) [
+        | inl here ↦ fewer (wanted_in file (one_less f m.aside)) (subst (λ (k : ℕ). wanted_in k (one_less f m.aside) ≡ wanted_in k m.aside - 1) (sym here) (less-here m.aside f of)) here
+        | inr off ↦ subst (λ (k : ℕ). AtMost (IsUsedIn tables file) k (drop (m.pushed + 1) m.written.keys)) (sym (less-beside m.aside f of file is off)) (slots-passed file is)
+      ]
+
+-- ---- slots that are others
+
 -- the slots are others, of which as many are set aside
 pub slots-sound : (h : StoreMemory) (slots : SnapshotSlots) → ((file : ℕ) → IsAreaFile file → (table_of slots file).aside ≡ (table_of h.slots file).aside) → IsSound h → IsSound (record h { slots = slots })
 slots-sound h slots same sound = record {
@@ -193,8 +226,8 @@ module _ (tables : Tables) (m : Member) (written : Memory) (key : Dbkey) (chain 
       )
       by false off = (line, ap (λ b. cond b (Some (rechained chain before)) (find dbkey_order q m.written.lines)) (sym off) ∙ (sym (found-now q) ∙ is), inr refl)
 
-  pub sound-rechained : (n : Member) → n.tsn ≡ m.tsn → n.written ≡ written → AreKeysOf written.lines written.keys → length written.keys < 2 ^ 32 → IsSoundMember tables n
-  sound-rechained n number same keys few = record {
+  pub sound-rechained : (n : Member) → n.tsn ≡ m.tsn → n.written ≡ written → AreKeysOf written.lines written.keys → length written.keys < 2 ^ 32 → HasSlotsFor tables n.aside (drop n.pushed m.written.keys) → IsSoundMember tables n
+  sound-rechained n number same keys few slots = record {
     first = subst (λ t. 1 ≤ t.number) (sym number) its.first;
     last = subst (λ t. t.number < 2 ^ 62) (sym number) its.last;
     keys = subst (λ (w : Memory). AreKeysOf w.lines w.keys) (sym same) keys;
@@ -206,6 +239,7 @@ module _ (tables : Tables) (m : Member) (written : Memory) (key : Dbkey) (chain 
         let old = line-before q line (ap (λ (w : Memory). find dbkey_order q w.lines) (sym same) ∙ is) in
         let lies = its.lies q old.0 old.1 in
         elim old.2 [ inl new ↦ subst (LiesIn tables q) (sym new) (lies-rechained tables q chain old.0 lies) | inr still ↦ subst (LiesIn tables q) (sym still) lies ];
+    slots = λ file is. subst (λ (ks : List Dbkey). AtMost (IsUsedIn tables file) (wanted_in file n.aside) (drop n.pushed ks)) (sym (ap (λ (w : Memory). w.keys) same ∙ rechains.keys)) (slots file is);
   }
 
   pub rechained-lessens : (n : Member) → n.written ≡ written → ((file : ℕ) → wanted_in file n.aside ≤ wanted_in file m.aside) → Lessens m n

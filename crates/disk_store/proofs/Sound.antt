@@ -1,5 +1,5 @@
 -- A memory stays sound where one member is another, and where the tables are others.
-use Rattle.std.proofs.Common.{◌≡◌, ◌≤◌, ◌<◌, ◌+◌, ◌^◌, inl, inr, ℕ, zero, suc, List, [], ◌∷◌, length, Some, refl, sym, ap, subst, ◌∙◌, arith}
+use Rattle.std.proofs.Common.{◌≡◌, ◌≤◌, ◌<◌, ◌+◌, ◌^◌, inl, inr, ℕ, zero, suc, List, [], ◌∷◌, drop, length, Some, refl, sym, ap, subst, ◌∙◌, arith}
 use Rattle.std.specs.Prelude.{slice_get, slice_set, sum_by}
 use Rattle.std.specs.FinMap.Entries.{find}
 use Rattle.std.proofs.lemmas.Option.{same_Some, none-some}
@@ -16,6 +16,7 @@ use Rattle.page_table.specs.declared.uses.PageUse.{PageUse}
 use Rattle.page_table.specs.Pages.{Pages, IsWithin, owner_in, class_in, use_of}
 use Rattle.page_table.specs.Scans.{IsNew}
 use Rattle.version_writing.specs.Tables.{table_of}
+use Rattle.version_writing.specs.declared.snapshot_slots.Wanted.{Wanted}
 use Rattle.member_memory.specs.Memory.{AreKeysOf}
 use Rattle.disk_store.specs.declared.member.Member.{Member}
 use Rattle.disk_store.specs.declared.held.Tables.{Tables}
@@ -24,7 +25,8 @@ use Rattle.disk_store.specs.Memory.{StoreMemory, with_member, with_tables}
 use Rattle.disk_store.specs.Numbers.{AreAllowed, with_settled}
 use Rattle.disk_store.specs.Shown.{pages_of}
 use Rattle.disk_store.specs.Taken.{TakesIn}
-use Rattle.disk_store.specs.Sound.{LiesIn, IsSoundMember, WroteApart, wanted_in, aside_in, IsSound}
+use Rattle.disk_store.specs.Sound.{LiesIn, IsSoundMember, IsUsedIn, AtMost, HasSlotsFor, WroteApart, wanted_in, aside_in, IsSound}
+use Rattle.disk_store.proofs.AtMost.{at-most-those, drop-none, dropped}
 use Rattle.disk_store.proofs.Members.{set-either}
 
 -- ---- a sum over the members, of which one is another
@@ -73,17 +75,26 @@ sound-empty tables n first last none = record {
   few = let e : length n.written.keys ≡ 0 = ap (λ w. length w.keys) none in omega (arith, e);
   bears = λ key line is. absurd (none-some line (sym (ap (λ w. find dbkey_order key w.lines) none) ∙ is));
   lies = λ key line is. absurd (none-some line (sym (ap (λ w. find dbkey_order key w.lines) none) ∙ is));
+  slots = λ file is. subst (λ (ks : List Dbkey). AtMost (IsUsedIn tables file) (wanted_in file n.aside) ks) (sym (ap (λ w. drop n.pushed w.keys) none ∙ drop-none n.pushed)) tt;
 }
 
-pub sound-as : (tables : Tables) (m n : Member) → n.tsn ≡ m.tsn → n.written ≡ m.written → IsSoundMember tables m → IsSoundMember tables n
-sound-as tables m n number same was = record {
+pub sound-but : (tables : Tables) (m n : Member) → n.tsn ≡ m.tsn → n.written ≡ m.written → HasSlotsFor tables n.aside (drop n.pushed n.written.keys) → IsSoundMember tables m → IsSoundMember tables n
+sound-but tables m n number same slots was = record {
   first = subst (λ t. 1 ≤ t.number) (sym number) was.first;
   last = subst (λ t. t.number < 2 ^ 62) (sym number) was.last;
   keys = subst (λ w. AreKeysOf w.lines w.keys) (sym same) was.keys;
   few = subst (λ w. length w.keys < 2 ^ 32) (sym same) was.few;
   bears = λ key line is. was.bears key line (ap (λ w. find dbkey_order key w.lines) (sym same) ∙ is) ∙ sym number;
   lies = λ key line is. was.lies key line (ap (λ w. find dbkey_order key w.lines) (sym same) ∙ is);
+  slots = slots;
 }
+
+-- no more of its lines are left to be pushed aside, and as many slots
+pub sound-as : (tables : Tables) (m n : Member) → n.tsn ≡ m.tsn → n.written ≡ m.written → n.pushed ≡ m.pushed → n.aside ≡ m.aside → IsSoundMember tables m → IsSoundMember tables n
+sound-as tables m n number same pushed aside was = sound-but tables m n number same (λ file is.
+    subst (λ (n_aside : Wanted). AtMost (IsUsedIn tables file) (wanted_in file n_aside) (drop n.pushed n.written.keys)) (sym aside)
+    (subst (λ (count : ℕ). AtMost (IsUsedIn tables file) (wanted_in file m.aside) (drop count n.written.keys)) (sym pushed)
+    (subst (λ w. AtMost (IsUsedIn tables file) (wanted_in file m.aside) (drop m.pushed w.keys)) (sym same) (was.slots file is)))) was
 
 module _ (h : StoreMemory) (s : ℕ) (m n : Member) (was : slice_get h.members s ≡ Some m) (sound : IsSound h) (its : IsSoundMember h.tables n) (less : Lessens m n) where
   abbrev members : List Member
@@ -163,11 +174,22 @@ module _ (old new : Tables) (keeps : KeepsPages old new) where
         allowed = subst (λ (c : ℕ). IsAllowedLine (group_line (key, line) c)) (sym class) lies.allowed;
       }
 
-  pub sound-still : (m : Member) → IsSoundMember old m → IsSoundMember new m
-  sound-still m was = record { first = was.first; last = was.last; keys = was.keys; few = was.few; bears = was.bears; lies = λ key line is. lies-still key line (was.lies key line is) }
+  pub sound-still : (m : Member) → ((i : ℕ) (key : Dbkey) → slice_get m.written.keys i ≡ Some key → (file : ℕ) → IsUsedIn new file key → IsUsedIn old file key) → IsSoundMember old m → IsSoundMember new m
+  sound-still m back was = record {
+    first = was.first;
+    last = was.last;
+    keys = was.keys;
+    few = was.few;
+    bears = was.bears;
+    lies = λ key line is. lies-still key line (was.lies key line is);
+    slots = λ file is. at-most-those (IsUsedIn old file) (IsUsedIn new file) (wanted_in file m.aside) (drop m.pushed m.written.keys)
+        (λ i key got used. let at = dropped m.written.keys m.pushed i key got in back at.0 key at.1 file used) (was.slots file is);
+  }
 
-pub sound-tables : (h : StoreMemory) (tables : Tables) → KeepsPages h.tables tables → IsSound h → IsSound (with_tables tables h)
-sound-tables h tables keeps sound = record { first = sound.first; last = sound.last; allowed = sound.allowed; each = λ s m is. sound-still h.tables tables keeps m (sound.each s m is); apart = sound.apart; asides = sound.asides }
+-- no more of the members' lines were ever used
+pub sound-tables : (h : StoreMemory) (tables : Tables) → KeepsPages h.tables tables
+    → ((s i : ℕ) (m : Member) (key : Dbkey) → slice_get h.members s ≡ Some m → slice_get m.written.keys i ≡ Some key → (file : ℕ) → IsUsedIn tables file key → IsUsedIn h.tables file key) → IsSound h → IsSound (with_tables tables h)
+sound-tables h tables keeps back sound = record { first = sound.first; last = sound.last; allowed = sound.allowed; each = λ s m is. sound-still h.tables tables keeps m (λ i key got file used. back s i m key is got file used) (sound.each s m is); apart = sound.apart; asides = sound.asides }
 
 -- a page that was nobody's is taken
 pub takes-keeps : (file page area class : ℕ) (old new : Tables) → IsNew (pages_of old file) page → TakesIn file page area class old new → KeepsPages old new

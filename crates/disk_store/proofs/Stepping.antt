@@ -31,7 +31,7 @@ use Rattle.disk_store.specs.Memory.{StoreMemory, with_member}
 use Rattle.disk_store.specs.Numbers.{kept_in}
 use Rattle.disk_store.specs.Seats.{seat_with, stand_of, steps_in, steps_of, steps_at}
 use Rattle.disk_store.specs.Standing.{StageStands}
-use Rattle.disk_store.specs.Shown.{Sits, SitsAs, NumbersStand, TablesStand, WaitPushed, WaitsAs, IsReading, HaveStarts, SpaceStands, Shown, sight_of}
+use Rattle.disk_store.specs.Shown.{Sits, SitsAs, NumbersStand, TablesStand, WaitPushed, WaitsAs, IsReading, AreUnused, HaveStarts, SpaceStands, Shown, sight_of}
 use Rattle.disk_store.proofs.Members.{set-here, set-beside, get-within}
 use Rattle.disk_store.proofs.Readers.{reader-beside, readers-still, starts-still}
 use Rattle.disk_store.proofs.Moving.{itself}
@@ -52,6 +52,7 @@ pub record ComesTo (v w : View) (behind : StoreMemory) (s : ℕ) (n : Member) (g
   pub readers : ReaderFacts w ledger behind.limits.snaps course_behind waiting_behind
   pub slots : HoldsAll w.content course_behind.followed behind.limits.snaps behind.slots
   pub used : HaveStarts behind.tables course_behind
+  pub unused : AreUnused behind.tables course_behind
   pub waits : WaitsAs n.stage waiting_behind s n
   pub waits_beside : (t : ℕ) → (t == s) ≡ false → waiting_behind t ≡ waiting t
   pub reads : (t : ℕ) → course_behind.reader t ≡ course.reader t
@@ -200,6 +201,7 @@ module _ (v w : View) (held behind : StoreMemory) (s : ℕ) (m n : Member) (was 
           reading = λ t x start is reads seat. reading-stands t (t == s) refl x start is reads seat;
           only = readers-still s to.course_behind held.members behind.members beside (λ t reading goes. shown.versions.only t reading (sym (to.reads t) ∙ goes));
           used = starts-still s to.course_behind behind.tables to.used;
+          unused = to.unused;
         };
         space = becomes.spaced h.space shown.space;
       }

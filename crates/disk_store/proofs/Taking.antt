@@ -18,6 +18,8 @@ use Rattle.disk_store.specs.Memory.{StoreMemory, with_tables}
 use Rattle.disk_store.specs.Seats.{stand_at}
 use Rattle.disk_store.specs.Shown.{pages_of, TablesStand, HaveStarts, Shown, sight_of}
 use Rattle.disk_store.specs.Taken.{TakesIn}
+use Rattle.disk_store.proofs.EverUsed.{takes-still}
+use Rattle.disk_store.proofs.Unused.{unused-still}
 
 -- nothing changes
 pub stays : (v : View) (held : StoreMemory) (s : ℕ) → Stays s (sight_of v held) (sight_of v held)
@@ -108,6 +110,7 @@ module _ (v : View) (held : StoreMemory) (s file class : ℕ) (key : Dbkey) (own
         reading = shown.versions.reading;
         only = shown.versions.only;
         used = used-kept h shown;
+        unused = unused-still held.tables kept shown.versions.course (takes-still file key.page key.area class held.tables kept new takes) shown.versions.unused;
       };
       space = record { limits = shown.space.limits; pages = has-pages h shown; snaps = shown.space.snaps; slots = shown.space.slots };
     }

@@ -22,8 +22,8 @@ use Rattle.version_writing.specs.declared.snapshot_slots.Wanted.{Wanted}
 use Rattle.member_memory.specs.Memory.{Memory, writes_in}
 use Rattle.disk_store.specs.declared.member.Member.{Member}
 use Rattle.disk_store.specs.declared.member.MemberStage.TheVariants as stage
-use Rattle.disk_store.specs.Memory.{StoreMemory, at_stage, with_member}
-use Rattle.disk_store.specs.Sound.{wanted_in}
+use Rattle.disk_store.specs.Memory.{StoreMemory, with_member}
+use Rattle.disk_store.specs.Sound.{IsUsedIn}
 
 -- ---- members
 
@@ -58,7 +58,7 @@ no_slots = record { catalog = 0; relations = 0; indexes = 0 }
 
 -- the change is through
 abbrev pub written_now : Member → Member
-written_now m = record m { stage = stage.Writing; aside = no_slots }
+written_now m = record m { stage = stage.Writing; aside = no_slots; pushed = length m.written.keys }
 
 -- A line of the session has no before-image yet, and stands in this place.
 pub record Unjournalled (members : List Member) (s : ℕ) : Type 0 where
@@ -92,12 +92,6 @@ pub record IsNext (members : List Member) (s : ℕ) (key : Dbkey) : Type 0 where
   pub at : member.stage ≡ stage.Changing
   pub next : slice_get member.written.keys member.pushed ≡ Some key
 
--- a slot of the file is set aside for the session
-pub record HasAside (members : List Member) (s file : ℕ) : Type 0 where
-  pub member : Member
-  pub is : slice_get members s ≡ Some member
-  pub some : 1 ≤ wanted_in file member.aside
-
 -- the line with its version before at this chain
 abbrev pub rechained : ℕ → Line → Line
 rechained chain line = record { state = line.state; tsn = line.tsn; chain = chain; image = line.image }
@@ -127,7 +121,7 @@ pub record StandsAside (v w : View) (key : Dbkey) (tsn : Tsn) (chain : ℕ) (old
 
 -- ---- what becomes of memory
 
--- the session's next line was pushed aside, or was never used
+-- the session's next line was pushed aside
 pub record PushesNext (s : ℕ) (key : Dbkey) (v w : View) (old new : StoreMemory) : Type 0 where
   pub member : Member
   pub was : slice_get old.members s ≡ Some member
@@ -139,6 +133,10 @@ pub record PushesNext (s : ℕ) (key : Dbkey) (v w : View) (old new : StoreMemor
   pub stands : StandsAside v w key member.tsn chain old.slots slots
   pub is : new ≡ record (with_member s (with_spent chain (snap_of key) (pushed_more written member)) old) { slots = slots }
 
+-- the push of its next line failed, for which a slot may have been taken
+abbrev pub broken_off : (chain file : ℕ) → Member → Member
+broken_off chain file m = record m { stage = stage.Broken; aside = spent chain file m.aside; pushed = m.pushed + 1 }
+
 -- it may have taken a slot, and its transaction can only die
 pub record BreaksOff (s : ℕ) (key : Dbkey) (v w : View) (old new : StoreMemory) : Type 0 where
   pub member : Member
@@ -146,14 +144,15 @@ pub record BreaksOff (s : ℕ) (key : Dbkey) (v w : View) (old new : StoreMemory
   pub chain : ℕ
   pub slots : SnapshotSlots
   pub takes : TakesAside v w key chain old.slots slots
-  pub is : new ≡ record (with_member s (at_stage stage.Broken (with_spent chain (snap_of key) member)) old) { slots = slots }
+  pub is : new ≡ record (with_member s (broken_off chain (snap_of key) member) old) { slots = slots }
 
--- its next line has nothing to push
+-- its next line was never used, by the tables, and has nothing to push
 pub record PassesNext (s : ℕ) (key : Dbkey) (old new : StoreMemory) : Type 0 where
   pub member : Member
   pub was : slice_get old.members s ≡ Some member
   pub written : Memory
   pub rechains : Rechains key 0 member.written written
+  pub never : (file : ℕ) → IsUsedIn old.tables file key → ⊥
   pub is : new ≡ with_member s (pushed_more written member) old
 
 abbrev pub without_asides : Wanted → SnapshotSlots → SnapshotSlots

@@ -1,5 +1,5 @@
 -- What a statement's writes make of a store's memory.
-use Rattle.std.specs.Prelude.{ℕ, ◌≡◌, ◌≤◌, ◌<◌, ◌+◌, ◌^◌, ◌==◌, ◌⊎◌, false, List, length, Option, Some, None, slice_get}
+use Rattle.std.specs.Prelude.{ℕ, ◌≡◌, ◌≤◌, ◌<◌, ◌+◌, ◌^◌, ◌==◌, ◌⊎◌, false, if◌then◌else◌, List, length, Option, Some, None, slice_get}
 use Rattle.std.specs.FinMap.Entries.{find}
 use Rattle.rdb_types.specs.declared.keys.Dbkey.{Dbkey}
 use Rattle.rdb_types.specs.declared.keys.Line.{Line}
@@ -62,6 +62,17 @@ pub record LaysOver (tsn : Tsn) (writes : List Write) (old new : Memory) : Type 
 
 abbrev pub all_of : Wanted → ℕ
 all_of wanted = wanted.catalog + (wanted.relations + wanted.indexes)
+
+-- one slot of the file more
+abbrev pub one_more : ℕ → Wanted → Wanted
+one_more file wanted =
+    if file == 1 then record { catalog = wanted.catalog + 1; relations = wanted.relations; indexes = wanted.indexes }
+    else (if file == 2 then record { catalog = wanted.catalog; relations = wanted.relations + 1; indexes = wanted.indexes }
+    else record { catalog = wanted.catalog; relations = wanted.relations; indexes = wanted.indexes + 1 })
+
+abbrev pub one_for : Option ℕ → Wanted → Wanted
+one_for None wanted = wanted
+one_for (Some file) wanted = one_more file wanted
 
 abbrev pub with_asides : Wanted → SnapshotSlots → SnapshotSlots
 with_asides wanted slots = record { catalog = with_aside wanted.catalog slots.catalog; relations = with_aside wanted.relations slots.relations; indexes = with_aside wanted.indexes slots.indexes }

@@ -32,9 +32,9 @@ abbrev pub MayGive : ℕ → List Member → SnapshotSlots → SnapshotSlots →
 MayGive tsn members old new = ((new ≡ old) × (IsUnwanted tsn members → ⊥)) ⊎ GivesUnwanted tsn members old new
 
 abbrev pub without_slots : Member → Member
-without_slots m = record m { aside = no_slots }
+without_slots m = record m { aside = no_slots; pushed = length m.written.keys }
 
--- The slots that are set aside for a session are given back.
+-- The slots that are set aside for a session are given back: no line of it is left to be pushed aside.
 pub record LeavesAside (s : ℕ) (old new : StoreMemory) : Type 0 where
   pub member : Member
   pub was : slice_get old.members s ≡ Some member

@@ -3,6 +3,7 @@ use Rattle.std.specs.Prelude.{ℕ, ◌+◌, ◌-◌, ◌≤◌, ◌<◌, ◌≡�
 use Rattle.std.specs.FinMap.Entries.{find}
 use Rattle.rdb_types.specs.declared.keys.Dbkey.{Dbkey}
 use Rattle.rdb_types.specs.declared.keys.Line.{Line}
+use Rattle.rdb_types.specs.declared.keys.LineState.TheVariants.{Never}
 use Rattle.rdb_types.specs.Order.{dbkey_order}
 use Rattle.rdb_page.specs.Page.{IsOwner}
 use Rattle.rdb_outside.specs.Disk.{View, Pending}
@@ -26,7 +27,7 @@ use Rattle.line_moves.specs.Lines.{ChangedLines}
 use Rattle.disk_seats.specs.Ledgers.{resting, Ledger}
 use Rattle.disk_seats.specs.Members.{LedgerFacts}
 use Rattle.member_steps.specs.Beginning.{HasCeiling}
-use Rattle.page_table.specs.Pages.{Pages, nobodys, owner_in, class_in, IsWithin}
+use Rattle.page_table.specs.Pages.{Pages, nobodys, owner_in, class_in, IsEverUsed, IsWithin}
 use Rattle.committed_tables.specs.Tables.{HasCommitted, WereUsed}
 use Rattle.version_writing.specs.Slots.{SlotTable}
 use Rattle.version_writing.specs.Tables.{HoldsAll}
@@ -105,6 +106,15 @@ AreReaders members course = (s : ℕ) (reading : Reading) → course.reader s �
 abbrev pub HaveStarts : Tables → Course → Type 0
 HaveStarts tables course = (s file : ℕ) (reading : Reading) (start : Lines) → IsAreaFile file → course.reader s ≡ Some reading → ((key : Dbkey) → reading.lines key ≡ line_in key start) → WereUsed (pages_of tables file) file start
 
+-- a line that was never used, and that has no version before
+pub record IsUnused (line : Line) : Type 0 where
+  pub never : line.state ≡ Never
+  pub none : line.chain ≡ 0
+
+-- a line that the tables never used is one, as the last commit left it
+abbrev pub AreUnused : Tables → Course → Type 0
+AreUnused tables course = (file : ℕ) (key : Dbkey) → IsOwner file key.area → (IsEverUsed (pages_of tables file) key → ⊥) → IsUnused (course.base key)
+
 -- the line is one of the first so many, and memory has its transaction and the version before it
 pub record IsPushed (pushed : ℕ) (written : Memory) (key : Dbkey) (line : Line) : Type 0 where
   pub place : ℕ
@@ -138,6 +148,7 @@ pub record VersionsStand (v : View) (g : Ledger) (held : StoreMemory) (h : Shelf
   pub reading : (s : ℕ) (m : Member) (start : Lines) → slice_get held.members s ≡ Some m → m.stage ≡ stage.Reading → h.seat s ≡ seat_with stage.Reading [] start → IsReading course s m start
   pub only : AreReaders held.members course
   pub used : HaveStarts held.tables course
+  pub unused : AreUnused held.tables course
 
 -- ---- space
 

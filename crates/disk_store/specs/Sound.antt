@@ -1,15 +1,16 @@
 -- What is true of a store's memory, whatever the disk tells.
-use Rattle.std.specs.Prelude.{ℕ, ◌≡◌, ◌<◌, ◌≤◌, ◌^◌, ◌==◌, if◌then◌else◌, List, length, sum_by, Some, slice_get}
+use Rattle.std.specs.Prelude.{ℕ, ◌≡◌, ◌-◌, ◌<◌, ◌≤◌, ◌^◌, ◌⊎◌, ◌==◌, if◌then◌else◌, List, [], ◌∷◌, drop, length, sum_by, Some, slice_get}
 use Rattle.std.specs.FinMap.Entries.{find}
 use Rattle.rdb_types.specs.declared.keys.Dbkey.{Dbkey}
 use Rattle.rdb_types.specs.declared.keys.Line.{Line}
 use Rattle.rdb_types.specs.Order.{dbkey_order}
+use Rattle.rdb_page.specs.Page.{IsOwner}
 use Rattle.aij_journal.specs.Part.{IsAllowedLine}
 use Rattle.stable_lines.specs.Slots.{IsAreaFile}
 use Rattle.line_moves.specs.declared.places.Place.{Place}
 use Rattle.line_moves.specs.Changes.{IsPlaceOf}
 use Rattle.line_seat.specs.Groups.{group_line}
-use Rattle.page_table.specs.Pages.{IsLineOf, class_in}
+use Rattle.page_table.specs.Pages.{IsEverUsed, IsLineOf, class_in}
 use Rattle.version_writing.specs.Tables.{table_of}
 use Rattle.version_writing.specs.declared.snapshot_slots.Wanted.{Wanted}
 use Rattle.member_memory.specs.Memory.{AreKeysOf}
@@ -28,7 +29,28 @@ pub record LiesIn (tables : Tables) (key : Dbkey) (line : Line) : Type 0 where
   pub is_line : IsLineOf (pages_of tables place.file) key
   pub allowed : IsAllowedLine (group_line (key, line) (class_in (pages_of tables place.file) key.page))
 
--- A member has the number of a transaction, and what it wrote bears that number and lies on pages.
+-- ---- slots
+
+abbrev pub wanted_in : ℕ → Wanted → ℕ
+wanted_in file wanted = if file == 1 then wanted.catalog else (if file == 2 then wanted.relations else wanted.indexes)
+
+-- a line of the file that was ever used, by the tables
+pub record IsUsedIn (tables : Tables) (file : ℕ) (key : Dbkey) : Type 0 where
+  pub owner : IsOwner file key.area
+  pub used : IsEverUsed (pages_of tables file) key
+
+-- no more than so many of the keys are such
+abbrev pub AtMost : (Dbkey → Type 0) → ℕ → List Dbkey → Type 0
+AtMost P n [] = Unit {0}
+AtMost P n (key ∷ keys) = ((P key → ⊥) × AtMost P n keys) ⊎ ((1 ≤ n) × AtMost P (n - 1) keys)
+
+-- a slot is set aside for each of these keys whose line was ever used
+abbrev pub HasSlotsFor : Tables → Wanted → List Dbkey → Type 0
+HasSlotsFor tables aside keys = (file : ℕ) → IsAreaFile file → AtMost (IsUsedIn tables file) (wanted_in file aside) keys
+
+-- ---- members
+
+-- A member has the number of a transaction, what it wrote bears that number and lies on pages, and slots are set aside for the lines that aren't pushed aside yet.
 pub record IsSoundMember (tables : Tables) (m : Member) : Type 0 where
   pub first : 1 ≤ m.tsn.number
   pub last : m.tsn.number < 2 ^ 62
@@ -36,16 +58,12 @@ pub record IsSoundMember (tables : Tables) (m : Member) : Type 0 where
   pub few : length m.written.keys < 2 ^ 32
   pub bears : (key : Dbkey) (line : Line) → find dbkey_order key m.written.lines ≡ Some line → line.tsn ≡ m.tsn
   pub lies : (key : Dbkey) (line : Line) → find dbkey_order key m.written.lines ≡ Some line → LiesIn tables key line
+  pub slots : HasSlotsFor tables m.aside (drop m.pushed m.written.keys)
 
 -- no two members have written one line
 abbrev pub WroteApart : List Member → Type 0
 WroteApart members = (s t : ℕ) (m n : Member) (key : Dbkey) (a b : Line) → slice_get members s ≡ Some m → slice_get members t ≡ Some n
     → find dbkey_order key m.written.lines ≡ Some a → find dbkey_order key n.written.lines ≡ Some b → s ≡ t
-
--- ---- slots
-
-abbrev pub wanted_in : ℕ → Wanted → ℕ
-wanted_in file wanted = if file == 1 then wanted.catalog else (if file == 2 then wanted.relations else wanted.indexes)
 
 -- how many slots of a snapshot file are set aside for members
 abbrev pub aside_in : ℕ → List Member → ℕ

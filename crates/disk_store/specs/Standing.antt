@@ -1,7 +1,7 @@
 -- How a member's memory stands to the ledger of all transactions on the disk.
 use Rattle.std.specs.Prelude.{ℕ, ◌≡◌, true, List, length, Some, slice_get}
 use Rattle.rdb_outside.specs.Disk.{View, Pending}
-use Rattle.stable_lines.specs.Slots.{Undo}
+use Rattle.stable_lines.specs.Slots.{ruj_file, named as named_in, Undo}
 use Rattle.stable_lines.specs.Progress.{Open}
 use Rattle.line_moves.specs.Classes.{HaveTheirClasses}
 use Rattle.line_seat.specs.declared.commit.CommitStage.{CommitStage}
@@ -27,6 +27,11 @@ pub record HasBegun (g : Ledger) (s : ℕ) (m : Member) : Type 0 where
   pub number : m.tsn ≡ transaction.tsn
   pub count : m.journalled ≡ length all
   pub keys : (i : ℕ) (undo : Undo) → slice_get all i ≡ Some undo → slice_get m.written.keys i ≡ Some undo.key
+
+-- Its statement changes lines, and where memory noted that its header names its transaction, that header stands.
+pub record IsJournalling (v : View) (g : Ledger) (s : ℕ) (m : Member) : Type 0 where
+  pub begun : HasBegun g s m
+  pub header : m.named ≡ true → named_in (v.content (ruj_file s) 0) ≡ m.tsn.number
 
 -- Its transaction can only end: no page was written, and a before-image may stand or not.
 pub record IsBroken (g : Ledger) (s : ℕ) (m : Member) : Type 0 where
@@ -95,7 +100,7 @@ abbrev pub StageStands : MemberStage → View → Ledger → ℕ → Member → 
 StageStands stage.Outside v g s m = g.standing s ≡ resting
 StageStands (stage.Beginning ceiling) v g s m = g.standing s ≡ resting
 StageStands stage.Writing v g s m = HasJournalled g s m
-StageStands stage.Changing v g s m = HasBegun g s m
+StageStands stage.Changing v g s m = IsJournalling v g s m
 StageStands stage.Broken v g s m = IsBroken g s m
 StageStands stage.Prepared v g s m = HasJournalled g s m
 StageStands (stage.Committing turn) v g s m = TurnStands turn v g s m

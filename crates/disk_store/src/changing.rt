@@ -1,15 +1,17 @@
 // A statement's writes are laid over the lines of its transaction, in memory.
-ghost use Rattle.std.specs.Prelude.{◌≡◌, ◌≤◌, ◌<◌, ◌^◌, [], true, false, length, IfNone, IfOk, IfSome, IfErr, OnOk, OnErr};
+ghost use Rattle.std.specs.Prelude.{◌≡◌, ◌≤◌, ◌<◌, ◌+◌, ◌^◌, ℕ, [], true, false, drop, length, IfNone, IfOk, IfSome, IfErr, OnOk, OnErr};
 ghost use Rattle.line_store.specs.Seats.{IsMember, IsWriting, changing, is_written, lines_added};
 ghost use Rattle.line_store.specs.Shelves.{Shelf};
 ghost use Rattle.line_store.specs.Calls.{Changes, MayStopChange};
 ghost use Rattle.line_store.specs.Sights.{Does, Stays};
 ghost use Rattle.stable_lines.specs.Slots.{IsAreaFile};
+ghost use Rattle.page_table.specs.Pages.{IsEverUsed};
 ghost use Rattle.member_memory.specs.Memory.{writes_in};
 ghost use Rattle.disk_store.specs.declared.member.Member.{Member as Sits};
-ghost use Rattle.disk_store.specs.Changing.{AreFit, HasPlace, IsFreeFor, LaysOver, LaysWrites, Stops, StopsAt, all_of, size_of, stop_of, with_asides};
+ghost use Rattle.disk_store.specs.Changing.{AreFit, HasPlace, IsFreeFor, LaysOver, LaysWrites, Stops, StopsAt, all_of, one_for, size_of, stop_of, with_asides};
 ghost use Rattle.disk_store.specs.Seats.{stand_at};
 ghost use Rattle.disk_store.specs.Shown.{Shown, pages_of, sight_of};
+ghost use Rattle.disk_store.specs.Sound.{HasSlotsFor, IsUsedIn};
 
 use crate::{Held, Member, MemberStage, Tables};
 use area_files::storage_area;
@@ -68,17 +70,34 @@ impl Tables {
         image_size(&write.image) <= used.class as usize
     }
 
-    // Whether a line was ever used, so that it has to be pushed aside.
-    fn was_used(&self, file: u32, key: Dbkey) -> bool
+    // Whether a line of the file was ever used, so that it has to be pushed aside.
+    pub(crate) fn was_used(&self, file: u32, key: Dbkey) -> bool
         requires { IsAreaFile file }
+        ensures yes { result ≡ true → IsEverUsed (pages_of self.now file) key }
+        ensures no { result ≡ false → IsEverUsed (pages_of self.now file) key → ⊥ }
     {
         self.of_file(file).was_used(key)
+    }
+
+    // The area file of a line that was ever used.
+    fn used_in(&self, key: Dbkey) -> Option<u32>
+        ensures used { IfSome result (λ file. IsUsedIn self.now file key) }
+        ensures never { IfNone result ((file : ℕ) → IsUsedIn self.now file key → ⊥) }
+    {
+        let Some(file) = storage_area(key.area) else {
+            return None;
+        };
+        if self.was_used(file, key) {
+            return Some(file);
+        }
+        None
     }
 
     // How many of the lines have to be pushed aside, in each area file.
     fn wanted_of(&self, keys: &[Dbkey]) -> Wanted
         requires { length keys.now < 2 ^ 32 }
-        ensures { all_of result ≤ length keys.now }
+        ensures count { all_of result ≤ length keys.now }
+        ensures enough { HasSlotsFor self.now result keys.now }
     {
         let mut wanted = Wanted {
             catalog: 0,
@@ -86,21 +105,26 @@ impl Tables {
             indexes: 0,
         };
         for key in keys {
-            match storage_area(key.area) {
-                Some(file) => {
-                    if self.was_used(file, *key) {
-                        match file {
-                            1 => wanted.catalog += 1,
-                            2 => wanted.relations += 1,
-                            _ => wanted.indexes += 1,
-                        }
-                    }
-                }
-                None => {}
-            }
+            let file = self.used_in(*key);
+            wanted = with_one(wanted, file);
         }
         wanted
     }
+}
+
+// One slot of a file more, where there is one.
+fn with_one(wanted: Wanted, file: Option<u32>) -> Wanted
+    requires { all_of wanted + 1 < 2 ^ 32 }
+    ensures { result ≡ one_for file wanted }
+{
+    let mut more = wanted;
+    match file {
+        Some(1) => more.catalog += 1,
+        Some(2) => more.relations += 1,
+        Some(_) => more.indexes += 1,
+        None => {}
+    }
+    more
 }
 
 // Whether another session's transaction has written the line.
@@ -148,6 +172,7 @@ fn lay_lines(
     writes: &[Write],
 ) -> Result<Wanted, ChangeStop>
     ensures laid { OnOk result (LaysOver tsn writes.now lines.old lines.new) }
+    ensures enough { IfOk result (λ wanted. HasSlotsFor tables.now wanted (drop (length lines.old.keys) lines.new.keys)) }
     ensures aside { IfOk result (λ wanted. slots.new ≡ with_asides wanted slots.old) }
     ensures count { IfOk result (λ wanted. all_of wanted ≤ lines_added (writes_in lines.old.lines) writes.now) }
     ensures lines_stay { OnErr result (lines.new ≡ lines.old) }

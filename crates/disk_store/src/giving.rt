@@ -35,19 +35,21 @@ fn give_pushed(slots: &mut SnapshotSlots, members: &[Member], tsn: Tsn)
 }
 
 impl Held {
-    // Gives back the slots that are set aside for a session.
+    // Gives back the slots that are set aside for a session: no line of it is left to be pushed aside.
     fn leave_aside(&mut self, s: Session)
         requires member { IsMember s.number }
         requires outside { IsAtStage self.old.members s.number Outside }
         ensures { LeavesAside s.number self.old self.new }
     {
         let member = &mut self.members[s.number as usize];
+        let count = member.written.keys().len();
         self.slots.leave(member.aside);
         member.aside = Wanted {
             catalog: 0,
             relations: 0,
             indexes: 0,
         };
+        member.pushed = count as u32;
     }
 
     /// Gives back the slots that are set aside for a session, and those that its transaction pushed into where no member wants them. The time grows as the slots in use, and is constant where a member wants them.

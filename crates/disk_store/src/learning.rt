@@ -15,7 +15,7 @@ use line_store::{Progress, ReadStop};
 use line_view::Known;
 use rdb_outside::Disk;
 use rdb_types::{Dbkey, NoMemory, Session};
-use seen_lines::present_lines;
+use reader_lines::present_lines;
 
 /// Reads a line as a session's transaction sees it: its own, else the committed one, or that of a reader's start.
 pub fn learn_line<D: Disk>(

@@ -47,7 +47,7 @@ pub enum MemberStage {
     Dead { commits: bool, recovery: Recovery },
 }
 
-/// A session as the store has it: where it is, the number of its read-write transaction, whether its header was found or made to name that since the last statement, the lines that this wrote, how many of them have a before-image, how many were pushed aside where they had to be, and the slots that are set aside for the others; what a reader keeps from its start, which says nothing at another stage; and, where a commit is prepared, the class of each line's page.
+/// A session as the store has it: where it is, the number of its read-write transaction, whether its header was found or made to name that since the last statement, the lines that this wrote, how many of them have a before-image, how many were pushed aside where they had to be, or given up, and the slots that are set aside for the others; what a reader keeps from its start, which says nothing at another stage; and, where a commit is prepared, the class of each line's page.
 #[derive(Drop)]
 pub struct Member {
     pub stage: MemberStage,

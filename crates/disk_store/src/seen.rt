@@ -12,7 +12,7 @@ ghost use Rattle.disk_seats.specs.Ledgers.{Ledger};
 ghost use Rattle.disk_seats.specs.Members.{LedgerFacts};
 ghost use Rattle.committed_lines.specs.Seen.{AreSeen};
 ghost use Rattle.committed_tables.specs.Tables.{WereUsed};
-ghost use Rattle.seen_lines.specs.Seen.{IsOfArea, seen_by as seen_with};
+ghost use Rattle.reader_lines.specs.seen_lines.Seen.{IsOfArea, seen_by as seen_with};
 ghost use Rattle.reader_lines.specs.Readers.{IsReader as IsReaderOf};
 ghost use Rattle.disk_store.specs.declared.member.MemberStage.TheVariants as stage;
 ghost use Rattle.disk_store.specs.BeforeImages.{seen_of};
@@ -26,8 +26,7 @@ use member_memory::MemberLines;
 use ordered_entries::Entries;
 use rdb_outside::Disk;
 use rdb_types::{Dbkey, Image, NoMemory, Session};
-use reader_lines::{reader_area, reader_line};
-use seen_lines::{own_area, seen_area, seen_line};
+use reader_lines::{own_area, reader_area, reader_line, seen_area, seen_line};
 use version_reading::Reader;
 
 impl Member {

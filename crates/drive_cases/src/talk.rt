@@ -69,6 +69,8 @@ impl Driven for Talk {
 
     type Done = u32;
 
+    type Bench = ();
+
     ghost board = { λ t. talk_board t.said.items t.first t.second t.stopped };
 
     ghost sessions = { 2 };
@@ -90,7 +92,9 @@ impl Driven for Talk {
         }
     }
 
-    fn work(piece: u32) -> u32 {
+    fn bench() {}
+
+    fn work(piece: u32, _bench: &mut ()) -> u32 {
         piece
     }
 

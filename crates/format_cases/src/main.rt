@@ -75,17 +75,22 @@ fn say(rt: &HostRuntime, scan: &mut Scan, text: &str) -> Result<(), NoMemory> {
     Ok(())
 }
 
-fn main(rt: HostRuntime) -> ExitCode {
-    let mut scan = Scan::new(rt.alloc(), 1);
+// Says each line, and gives the status.
+fn say_lines(rt: &HostRuntime, scan: &mut Scan) -> u8 {
     for line in rt.lines(rt.alloc()) {
         let Ok(line) = line else {
-            return ExitCode::from(3);
+            return 3;
         };
         let text = line.as_str();
         let _ = println!(rt; "{text}");
-        if say(&rt, &mut scan, text).is_err() {
-            return ExitCode::from(5);
+        if say(rt, scan, text).is_err() {
+            return 5;
         }
     }
-    ExitCode::from(0)
+    0
+}
+
+fn main(rt: HostRuntime) -> ExitCode {
+    let mut scan = Scan::new(rt.alloc(), 1);
+    ExitCode::from(say_lines(&rt, &mut scan))
 }

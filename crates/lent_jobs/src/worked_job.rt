@@ -1,8 +1,9 @@
 ghost use Rattle.std.specs.Prelude.{◌≡◌};
 ghost use Rattle.session_jobs.specs.Jobs.{IsFoundFor};
 
-use lent_values::Answer;
-use session_jobs::{Found, Job, Outcome, Statements};
+use crate::remembering::{Remembering, Remembers};
+use lent_values::{Answer, Maker};
+use session_jobs::{Answer as Answered, Found, Job, Outcome, Statements};
 use std::marker::{Model, PhantomData};
 
 /// A job, and what it came to, which is right for it. What its executor keeps from job to job is let go.
@@ -50,6 +51,21 @@ impl<S: Statements> Answer<Job> for WorkedJob<S> {
 
     fn of(job: Job) -> WorkedJob<S> {
         let (job, _, found) = Outcome::<S>::of(job, S::nothing()).into_parts();
+        WorkedJob {
+            job,
+            found,
+            of: PhantomData,
+        }
+    }
+}
+
+impl<S: Remembers> Maker<Job, WorkedJob<S>> for Remembering<S> {
+    fn make(&mut self, job: Job) -> WorkedJob<S> {
+        let Answered {
+            job,
+            kept: (),
+            found,
+        } = S::work_again(job, &mut self.memory);
         WorkedJob {
             job,
             found,

@@ -7,5 +7,5 @@ mod receipt;
 mod rule;
 
 pub use desk::{Desk, Naming, Opened};
-pub use loan::{Answer, Loan, Worked};
+pub use loan::{Answer, Loan, Maker, Worked};
 pub use receipt::Receipt;

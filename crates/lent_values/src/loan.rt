@@ -60,6 +60,15 @@ impl<J: Naming, T> Loan<J, T> {
             answer: R::of(value),
         }
     }
+
+    /// The same by a maker, which may keep what helps it with the next value.
+    pub fn work_by<R: Answer<T>, M: Maker<T, R>>(self, maker: &mut M) -> Worked<J, T, R> {
+        let Loan { receipt, value } = self;
+        Worked {
+            receipt,
+            answer: maker.make(value),
+        }
+    }
 }
 
 /// What is made of a value, and says which it was.
@@ -68,6 +77,12 @@ pub trait Answer<T> {
 
     fn of(value: T) -> Self
         ensures { asked result ≡ value };
+}
+
+/// Makes answers of values.
+pub trait Maker<T, R: Answer<T>> {
+    fn make(&mut self, value: T) -> R
+        ensures { R.asked result ≡ value };
 }
 
 /// What was made of a value that a desk has lent.

@@ -3,16 +3,15 @@ ghost use Rattle.std.specs.Prelude.{◌≡◌};
 ghost use Rattle.line_store.specs.Seats.{IsMember};
 ghost use Rattle.session_stands.specs.Seated.{IsSeated};
 ghost use Rattle.stage_steps.specs.Scenes.{ComesIn, scene};
-ghost use Rattle.gathering_steps.specs.Rounds.{gathers_at};
+ghost use Rattle.room_steps.specs.gathering_steps.Rounds.{gathers_at};
 
 use crate::working::want_lock;
-use gathering_steps::{Round, fetch_gathered};
 use given_rooms::Rooms;
 use line_store::LineStore;
 use line_view::Need;
 use rdb_types::Session;
 use reached_changes::Reaches;
-use room_steps::{Given, house, lodge};
+use room_steps::{Given, Round, fetch_gathered, house, lodge};
 use session_states::Gather;
 use stage_steps::{Common, Terms, Turned};
 

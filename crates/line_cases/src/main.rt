@@ -12,19 +12,28 @@ use std::process::ExitCode;
 use telling::tell;
 use world::World;
 
-fn main(rt: HostRuntime) -> ExitCode {
-    let mut world = World::new(rt.alloc());
+// Echoes a line, and does what it says.
+fn say_line(rt: &HostRuntime, world: &mut World, text: &str) {
+    let _ = println!(rt; "{text}");
+    if text.starts_with("-") {
+        *world = World::new(rt.alloc());
+    } else if say(rt, world, text).is_err() {
+        tell(rt, "NO MEMORY");
+    }
+}
+
+// Says each line, and gives the status.
+fn say_lines(rt: &HostRuntime, world: &mut World) -> u8 {
     for line in rt.lines(rt.alloc()) {
         let Ok(line) = line else {
-            return ExitCode::from(3);
+            return 3;
         };
-        let text = line.as_str();
-        let _ = println!(rt; "{text}");
-        if text.starts_with("-") {
-            world = World::new(rt.alloc());
-        } else if say(&rt, &mut world, text).is_err() {
-            tell(&rt, "NO MEMORY");
-        }
+        say_line(rt, world, line.as_str());
     }
-    ExitCode::from(0)
+    0
+}
+
+fn main(rt: HostRuntime) -> ExitCode {
+    let mut world = World::new(rt.alloc());
+    ExitCode::from(say_lines(&rt, &mut world))
 }

@@ -8,13 +8,24 @@ use std::alloc::Global;
 use std::collections::BTreeSet;
 
 /// What is known, the lines that are given as rooms beside it, and the first page that was never used.
-#[derive(Drop)]
 pub struct World {
     pub known: Known,
     pub rooms: Vec<Dbkey>,
     pub next_page: u32,
     /// How many nodes of the index went.
     pub gone: u32,
+}
+
+// By hand, so that it is one call wherever it is let go.
+impl Drop for World {
+    fn drop(self) {
+        let World {
+            known: _known,
+            rooms: _rooms,
+            next_page: _,
+            gone: _,
+        } = self;
+    }
 }
 
 impl View for World {

@@ -34,8 +34,8 @@ use Rattle.stage_steps.specs.declared.dying.Recovery.{Recovery}
 use Rattle.stage_steps.specs.declared.dying.Recovery.TheVariants.{More, Done}
 use Rattle.stage_steps.specs.Deaths.{NearerRecoveredIn, RecoversIn, life_behind}
 use Rattle.stage_steps.specs.Scenes.{Scene, NearerIn, beside}
-use Rattle.line_arms.specs.declared.allotment.Allotment.{Allotment}
-use Rattle.line_arms.specs.Going.{GoesOn}
+use Rattle.lent_members.specs.line_arms.declared.allotment.Allotment.{Allotment}
+use Rattle.lent_members.specs.line_arms.Going.{GoesOn}
 use Rattle.lent_members.specs.Going.{IsWriterAt, writes_at}
 use Rattle.line_cluster.specs.declared.behind.Notice.{Notice}
 use Rattle.line_cluster.specs.declared.sessions.Halt.{Halt}

@@ -37,7 +37,7 @@ use Rattle.stage_steps.specs.Happenings.{events_of, handed_back}
 use Rattle.stage_steps.specs.Scenes.{Scene, Goes, NearerIn, scene, on_shelf}
 use Rattle.stage_steps.specs.Turns.{Comes}
 use Rattle.line_cluster.specs.declared.sessions.Halt.{Halt}
-use Rattle.line_arms.specs.Going.{GoesOn, IsAmong, is_done}
+use Rattle.lent_members.specs.line_arms.Going.{GoesOn, IsAmong, is_done}
 use Rattle.lent_members.specs.Going.{IsWriterAt, writes_at, is_over, is_stopping, is_dead, is_dead_life}
 use Rattle.line_cluster.specs.declared.behind.Notice.{Notice}
 use Rattle.line_cluster.specs.Behind.{IsNoticed, is_moving, tells_slot, tells_unsound}

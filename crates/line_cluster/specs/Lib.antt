@@ -1,3 +1,5 @@
+pub use Rattle.lent_members.specs.line_arms as line_arms
+pub use Rattle.lent_members.specs as lent_members
 pub mod Deaths
 pub mod Sound
 pub mod Turned

@@ -15,7 +15,7 @@ use Rattle.session_states.specs.declared.stage.Life.TheVariants.{Alive, Dead}
 use Rattle.session_states.specs.declared.stage.Member.{Member}
 use Rattle.session_stands.specs.Sessions.{dead_in}
 use Rattle.stage_steps.specs.Nearer.{is_patient_at}
-use Rattle.line_arms.specs.declared.allotment.Allotment.{Allotment}
+use Rattle.lent_members.specs.line_arms.declared.allotment.Allotment.{Allotment}
 use Rattle.line_cluster.specs.Measured.{measure_by}
 use Rattle.line_cluster.specs.declared.sessions.Halt.{Halt}
 use Rattle.line_cluster.specs.declared.sessions.Turn.{Turn}

@@ -1,9 +1,9 @@
 //! What the statement under way of each session is allotted.
 ghost use Rattle.std.specs.Prelude.{◌≡◌, ◌≤◌, ◌-◌, Some, slice_get, slice_set};
-ghost use Rattle.line_arms.specs.declared.allotment.Allotment.{Allotment as AllotmentValue};
+ghost use Rattle.lent_members.specs.line_arms.declared.allotment.Allotment.{Allotment as AllotmentValue};
 ghost use Rattle.line_cluster.specs.Turned.{rounds_at};
 
-use line_arms::Allotment;
+use lent_members::Allotment;
 use rdb_types::{NoMemory, Session};
 use std::alloc::Global;
 use std::marker::Model;
@@ -20,7 +20,7 @@ pub struct Allotments {
 
 impl Model for Allotments {
     ghost use Rattle.std.specs.Prelude.{◌≡◌, List, length};
-    ghost use Rattle.line_arms.specs.declared.allotment.Allotment.{Allotment};
+    ghost use Rattle.lent_members.specs.line_arms.declared.allotment.Allotment.{Allotment};
 
     ghost Value = { List Allotment };
 

@@ -6,12 +6,10 @@ ghost use Rattle.session_stands.specs.Seated.{IsSeated};
 ghost use Rattle.session_measure.specs.Nearer.{AreRounds};
 ghost use Rattle.stage_steps.specs.Happenings.{handed_back};
 ghost use Rattle.stage_steps.specs.Scenes.{scene};
-ghost use Rattle.line_arms.specs.Going.{GoesOn, IsAmong, is_done};
+ghost use Rattle.lent_members.specs.line_arms.Going.{GoesOn, IsAmong, is_done};
 ghost use Rattle.lent_members.specs.Whereabouts.{IsPresent, phase_at};
 
-use answered_steps::take_answered;
-use lent_members::Presence;
-use line_arms::{Allotment, go_on};
+use lent_members::{Allotment, Presence, go_on, take_answered};
 use line_store::LineStore;
 use rdb_types::Session;
 use reached_changes::Reaches;

@@ -5,7 +5,7 @@ ghost use Rattle.rdb_drive.specs.Boards.{Less};
 ghost use Rattle.session_states.specs.declared.stage.Life.TheVariants.{Alive, Dead};
 ghost use Rattle.session_states.specs.declared.stage.Member.{Member as MemberValue};
 ghost use Rattle.session_states.specs.States.{may_die_in};
-ghost use Rattle.line_arms.specs.Going.{is_done};
+ghost use Rattle.lent_members.specs.line_arms.Going.{is_done};
 ghost use Rattle.session_stands.specs.Sessions.{dead_in};
 ghost use Rattle.lock_tree_laws.specs.Forest.{party_of};
 ghost use Rattle.lock_tree_laws.specs.LockTable.{granted_at};

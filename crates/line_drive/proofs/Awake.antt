@@ -26,7 +26,7 @@ use Rattle.session_states.specs.declared.stage.Life.TheVariants.{Alive, Dead, Go
 use Rattle.session_states.specs.declared.stage.Member.{Member}
 use Rattle.session_stands.specs.Seated.{LivesAt}
 use Rattle.session_stands.specs.Sessions.{AreSeated, dead_in, member_at}
-use Rattle.lent_members.specs.Going.{is_dead, is_dead_life, is_over}
+use Rattle.line_cluster.specs.lent_members.Going.{is_dead, is_dead_life, is_over}
 use Rattle.line_cluster.proofs.Coming.{some-dead}
 use Rattle.line_cluster.specs.Turned.{Sessions}
 use Rattle.line_cluster.specs.Asleep.{is_asleep, is_mourning, is_patient}

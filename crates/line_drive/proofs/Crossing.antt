@@ -37,10 +37,10 @@ use Rattle.lent_values.proofs.Crossing.{receipt_send}
 use Rattle.lent_values.proofs.desk.Desk.TheSendSync as desk
 use Rattle.session_jobs.specs.contracts.jobs.Job as Job
 use Rattle.lent_jobs.proofs.Crossing.{worked_job_send}
-use Rattle.answered_steps.proofs.answered.Absence.TheSendSync as absence
-use Rattle.lent_members.specs.contracts.lent_members.Whereabouts as Whereabouts
-use Rattle.lent_members.specs.contracts.lent_members.LentMember as LentMember
-use Rattle.lent_members.specs.contracts.lent_members.LentMember.TheInside as member_inside
+use Rattle.line_cluster.proofs.answered_steps.answered.Absence.TheSendSync as absence
+use Rattle.line_cluster.specs.lent_members.contracts.lent_members.Whereabouts as Whereabouts
+use Rattle.line_cluster.specs.lent_members.contracts.lent_members.LentMember as LentMember
+use Rattle.line_cluster.specs.lent_members.contracts.lent_members.LentMember.TheInside as member_inside
 use Rattle.line_cluster.specs.contracts.sessions.Core as Core
 use Rattle.line_cluster.specs.contracts.cluster.LineCluster as LineCluster
 use Rattle.line_cluster.specs.contracts.cluster.LineCluster.TheInside as cluster_inside

@@ -21,7 +21,7 @@ use Rattle.session_measure.specs.Weights.{life_left}
 use Rattle.line_cluster.specs.declared.sessions.Turn.{Turn}
 use Rattle.line_cluster.specs.declared.sessions.Turn.TheVariants as turn
 use Rattle.line_cluster.specs.Deaths.{is_stop, lives_in}
-use Rattle.lent_members.specs.Going.{is_alive_life, is_dead, is_dead_life, is_over, with_life}
+use Rattle.line_cluster.specs.lent_members.Going.{is_alive_life, is_dead, is_dead_life, is_over, with_life}
 use Rattle.line_cluster.specs.Measured.{IsBounded}
 use Rattle.line_cluster.specs.Turned.{Sessions, DeathCame, HasNothingLeft, HaveEnded, IsAtEnd, IsDeath, IsHalt, IsRecovery, RecoveryCame, mark_of}
 use Rattle.line_drive.specs.Boards.{board_of, has_ended, marks_of, mortals_of}

@@ -20,8 +20,8 @@ use Rattle.session_stands.specs.Sessions.{AreSeated, dead_in, member_at}
 use Rattle.session_measure.specs.Weights.{life_left}
 use Rattle.line_cluster.specs.declared.sessions.Turn.{Turn}
 use Rattle.line_cluster.specs.declared.sessions.Turn.TheVariants as turn
-use Rattle.line_arms.specs.Going.{is_done}
-use Rattle.lent_members.specs.Going.{is_dead, is_over}
+use Rattle.line_cluster.specs.line_arms.Going.{is_done}
+use Rattle.line_cluster.specs.lent_members.Going.{is_dead, is_over}
 use Rattle.stage_steps.specs.Nearer.{is_patient_at}
 use Rattle.line_cluster.specs.Deaths.{lives_in}
 use Rattle.line_cluster.specs.Measured.{IsBounded}

@@ -1,2 +1,3 @@
+pub use Rattle.line_cluster.specs as line_cluster
 pub mod Boards
 pub mod Turns

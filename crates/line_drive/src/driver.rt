@@ -12,7 +12,7 @@ ghost use Rattle.line_cluster.specs.Turned.{HaveAllEnded};
 ghost use Rattle.line_drive.specs.Boards.{board_of, marks_of};
 ghost use Rattle.line_drive.specs.Turns.{IsHeardOf, step_for};
 
-use lent_jobs::WorkedJob;
+use lent_jobs::{Remembering, Remembers, WorkedJob};
 use lent_values::{Loan, Naming, Worked};
 use line_cluster::{Finished, LineCluster, Origin, Turn};
 use line_store::LineStore;
@@ -157,13 +157,21 @@ impl<O: Origin + Naming, S: Reserves + Reaches, L: LineStore + Drop> LineDriver<
     }
 }
 
-impl<O: Origin + Naming + Send, S: Reserves + Reaches + Send, L: LineStore + Drop> Driven
-    for LineDriver<O, S, L> {
+impl<
+    O: Origin + Naming + Send,
+    S: Reserves + Reaches + Remembers + Send,
+    L: LineStore + Drop,
+> Driven for LineDriver<O, S, L>
+where
+    S::Memory: Send,
+{
     ghost use Rattle.line_drive.specs.Boards.{board_of, mortals_of};
 
     type Piece = Loan<O, Job>;
 
     type Done = Worked<O, Job, WorkedJob<S>>;
+
+    type Bench = Remembering<S>;
 
     ghost board = { λ d. board_of O.told O.opening d };
 
@@ -190,8 +198,12 @@ impl<O: Origin + Naming + Send, S: Reserves + Reaches + Send, L: LineStore + Dro
         self.turn(s)
     }
 
-    fn work(piece: Loan<O, Job>) -> Worked<O, Job, WorkedJob<S>> {
-        piece.work()
+    fn bench() -> Remembering<S> {
+        Remembering::new()
+    }
+
+    fn work(piece: Loan<O, Job>, bench: &mut Remembering<S>) -> Worked<O, Job, WorkedJob<S>> {
+        piece.work_by(bench)
     }
 
     fn give(&mut self, s: Session, done: Worked<O, Job, WorkedJob<S>>) -> Step<Loan<O, Job>> {

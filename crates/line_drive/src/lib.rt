@@ -5,4 +5,5 @@ mod driver;
 mod run;
 
 pub use driver::LineDriver;
+pub use line_cluster::{Halt, LineCluster, Origin};
 pub use run::{Ran, run_in_order, run_in_threads};

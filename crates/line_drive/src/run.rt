@@ -12,6 +12,7 @@ ghost use Rattle.line_drive.specs.Boards.{board_of, mortals_of};
 ghost use Rattle.line_drive.specs.Turns.{KeepsTurns, has_deaths};
 
 use crate::driver::LineDriver;
+use lent_jobs::Remembers;
 use lent_values::Naming;
 use line_cluster::{Finished, Halt, LineCluster, Origin};
 use line_store::LineStore;
@@ -74,12 +75,13 @@ fn ran_of<O: Origin + Naming, S: Reserves + Reaches, L: LineStore + Drop>(
 /// recovered before another goes on.
 pub fn run_in_order<
     O: Origin + Naming + Send,
-    S: Reserves + Reaches + Send,
+    S: Reserves + Reaches + Remembers + Send,
     L: LineStore + Drop,
     G: Gate,
 >(cluster: LineCluster<O, S, L>, sessions: u32, order: &[u32], gate: &G) -> Ran<L>
 where
     S::Kept: Send,
+    S::Memory: Send,
     requires fresh { cluster.events ≡ [] }
     requires sessions { sessions ≡ O.sessions }
     requires few { sessions ≤ MOST_SESSIONS }
@@ -107,12 +109,13 @@ where
 pub fn run_in_threads<
     R: Threads + Wait + Sync,
     O: Origin + Naming + Send,
-    S: Reserves + Reaches + Send,
+    S: Reserves + Reaches + Remembers + Send,
     L: LineStore + Drop + Send,
     G: Gate + Sync,
 >(rt: &R, cluster: LineCluster<O, S, L>, sessions: u32, gate: &G) -> Ran<L>
 where
     S::Kept: Send,
+    S::Memory: Send,
     requires fresh { cluster.events ≡ [] }
     requires sessions { sessions ≡ O.sessions }
     requires few { sessions ≤ MOST_SESSIONS }

@@ -8,8 +8,8 @@ use Rattle.rdb_account.specs.Places.{Opening}
 use Rattle.session_jobs.specs.Records.{Model}
 use Rattle.line_store.specs.Shelves.{Shelf}
 use Rattle.line_store.specs.Sights.{Sight}
-use Rattle.line_cluster.specs.Deaths.{RoseBy}
-use Rattle.line_cluster.specs.Sound.{IsOpenedBy}
+use Rattle.line_drive.specs.line_cluster.Deaths.{RoseBy}
+use Rattle.line_drive.specs.line_cluster.Sound.{IsOpenedBy}
 use Rattle.line_opening.specs.declared.fault.OpeningFault.{OpeningFault}
 use Rattle.line_runs.specs.Openings.{IsOpeningOf}
 

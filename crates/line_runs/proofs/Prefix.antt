@@ -13,18 +13,18 @@ use Rattle.opened_store.specs.Opened.{BeginsFrom, IsLeft as IsAsLeft}
 use Rattle.member_steps.specs.Standing.{HasLines}
 use Rattle.store_shows.specs.Shows.{Leaves}
 use Rattle.store_shows.proofs.Standing.{may_stand}
-use Rattle.disk_store.specs.Memory.{StoreMemory}
-use Rattle.disk_store.specs.Shown.{Shown}
+use Rattle.opened_store.specs.disk_store.Memory.{StoreMemory}
+use Rattle.opened_store.specs.disk_store.Shown.{Shown}
 use Rattle.disk_line_store.specs.Back.{IsBack}
-use Rattle.disk_store.proofs.Agreeing.{agreeing, shown-opens}
+use Rattle.opened_store.proofs.disk_store.Agreeing.{agreeing, shown-opens}
 use Rattle.line_store.specs.Seats.{outside, in_flight}
 use Rattle.line_store.specs.Shelves.{Shelf}
 use Rattle.line_store.specs.Calls.{MayStand}
 use Rattle.line_store.specs.Sights.{Sight, bare}
 use Rattle.session_jobs.specs.Records.{Model}
 use Rattle.session_stands.proofs.Seats.{outside-seat}
-use Rattle.line_cluster.specs.Deaths.{CountsFaults, RoseBy}
-use Rattle.line_cluster.specs.Sound.{HasImages, IsLeft, IsOpenedBy, ShowsSpent}
+use Rattle.line_drive.specs.line_cluster.Deaths.{CountsFaults, RoseBy}
+use Rattle.line_drive.specs.line_cluster.Sound.{HasImages, IsLeft, IsOpenedBy, ShowsSpent}
 use Rattle.line_runs.specs.Openings.{HasSpent}
 use Rattle.line_runs.specs.Prefix.{GaveUp, HoldsAll, HoldsPrefix, StandsFor}
 

@@ -6,13 +6,13 @@ ghost use Rattle.stable_lines.specs.Journal.{Journal};
 ghost use Rattle.rdb_account.specs.Events.{Event};
 ghost use Rattle.rdb_account.specs.Places.{Opening, place};
 ghost use Rattle.line_steps.specs.Images.{StandsAt};
-ghost use Rattle.disk_store.specs.Shown.{sight_of};
-ghost use Rattle.line_cluster.specs.Sound.{IsOpenedBy};
+ghost use Rattle.opened_store.specs.disk_store.Shown.{sight_of};
+ghost use Rattle.line_drive.specs.line_cluster.Sound.{IsOpenedBy};
 ghost use Rattle.opened_store.specs.Opened.{BeginsFrom};
 ghost use Rattle.line_runs.specs.Openings.{IsOpeningOf, OpensWith};
 ghost use Rattle.line_runs.specs.Prefix.{HoldsPrefix};
 
-use disk_store::Held;
+use opened_store::Held;
 use rdb_outside::Disk;
 use session_jobs::Statements;
 

@@ -5,4 +5,7 @@ mod laws;
 mod runs;
 
 pub use laws::{a_run_leaves_what_opens, a_run_opens};
+pub use line_drive::{Halt, Origin};
+pub use opened_store::a_new_database_opens;
+pub use rdo_reserving::ReservingStatements;
 pub use runs::{LineRun, Said, say_in_order, say_in_threads};

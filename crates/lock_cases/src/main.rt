@@ -21,11 +21,20 @@ use trees::say_of_tree;
 use vms_queues::Resource;
 
 /// What the lines speak of.
-#[derive(Drop)]
 struct World {
     queues: Resource,
     party: Party,
     tree: Tree,
+}
+
+impl Drop for World {
+    fn drop(self) {
+        let World {
+            queues: _queues,
+            party: _party,
+            tree: _tree,
+        } = self;
+    }
 }
 
 fn empty_world(alloc: Global) -> World {
@@ -50,19 +59,29 @@ fn say(rt: &HostRuntime, world: &mut World, about: &str, said: &Said<'_>) {
     }
 }
 
-fn main(rt: HostRuntime) -> ExitCode {
-    let mut world = empty_world(rt.alloc());
+// Echoes a line, and does what it says.
+fn say_line(rt: &HostRuntime, world: &mut World, text: &str) {
+    let _ = println!(rt; "{text}");
+    if text.starts_with("-") {
+        *world = empty_world(rt.alloc());
+    } else if let Some((about, rest)) = text.split_once(' ') {
+        say(rt, world, about, &said_in(rest));
+    }
+}
+
+// Does each line of standard input. False where one can't be read.
+fn say_all(rt: &HostRuntime, world: &mut World) -> bool {
     for line in rt.lines(rt.alloc()) {
         let Ok(line) = line else {
-            return ExitCode::from(3);
+            return false;
         };
-        let text = line.as_str();
-        let _ = println!(rt; "{text}");
-        if text.starts_with("-") {
-            world = empty_world(rt.alloc());
-        } else if let Some((about, rest)) = text.split_once(' ') {
-            say(&rt, &mut world, about, &said_in(rest));
-        }
+        say_line(rt, world, line.as_str());
     }
-    ExitCode::from(0)
+    true
+}
+
+fn main(rt: HostRuntime) -> ExitCode {
+    let mut world = empty_world(rt.alloc());
+    let is_read = say_all(&rt, &mut world);
+    ExitCode::from(if is_read { 0 } else { 3 })
 }

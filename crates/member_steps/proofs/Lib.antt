@@ -1,5 +1,6 @@
 pub mod OwnersSaid
 pub mod Journals
+pub mod JournalsStay
 pub mod Told
 pub mod Begun
 pub mod Standings

@@ -5,7 +5,7 @@ ghost use Rattle.rdb_types.specs.declared.file.FileKind.TheVariants.{Root as Roo
 ghost use Rattle.rdb_outside.specs.Causes.{Rose};
 ghost use Rattle.rdb_outside.specs.Disk.{OnlyReads, Pending};
 ghost use Rattle.area_files.specs.Areas.{IsDataPage};
-ghost use Rattle.stable_lines.specs.Slots.{Undo, area_file, IsAreaFile};
+ghost use Rattle.stable_lines.specs.Slots.{Undo, area_file, ruj_file, IsAreaFile};
 ghost use Rattle.stable_lines.specs.Progress.{Open, Flight};
 ghost use Rattle.line_moves.specs.Calls.{OnlyWrites};
 ghost use Rattle.line_moves.specs.Changes.{KeepsLines};
@@ -121,6 +121,8 @@ fn go_further<D: Disk>(
     requires tsn { group.tsn.number < 2 ^ 62 }
     ensures writes { (file : File) × (slot : ℕ) × (file.kind ≢ Snap) × (file.kind ≢ RootKind)
         × OnlyWrites file slot (D.view disk.old) (D.view disk.new) }
+    ensures journals { IsTrue (D.view disk.old).tells → (member : ℕ) (slot : ℕ)
+        → (D.view disk.new).content (ruj_file member) slot ≡ (D.view disk.old).content (ruj_file member) slot }
     ensures failed { IsErrOf result Fault.Failed
         → Rose (D.view disk.old).faults (D.view disk.new).faults }
     ensures bad { (file : File) (slot : ℕ) → IsErrOf result (Fault.Bad file slot)
@@ -184,6 +186,10 @@ pub fn commit_next<D: Disk>(
     // It writes one slot at most, and neither of a snapshot file nor of the root.
     ensures writes { (file : File) × (slot : ℕ) × (file.kind ≢ Snap) × (file.kind ≢ RootKind)
         × OnlyWrites file slot (D.view disk.old) (D.view disk.new) }
+
+    // Before-image journals read as they did.
+    ensures journals { IsTrue (D.view disk.old).tells → (member : ℕ) (slot : ℕ)
+        → (D.view disk.new).content (ruj_file member) slot ≡ (D.view disk.old).content (ruj_file member) slot }
     ensures failed { IsErrOf result Fault.Failed
         → Rose (D.view disk.old).faults (D.view disk.new).faults }
 

@@ -1,5 +1,5 @@
 // A member's before-images, one write a step.
-ghost use Rattle.std.specs.Prelude.{◌≡◌, ◌+◌, ◌≤◌, ◌<◌, ◌^◌, ◌⊎◌, true, false, ℕ, List, length, Ok, Some, IfOk, IsErrOf, IsTrue};
+ghost use Rattle.std.specs.Prelude.{◌≡◌, ◌≢◌, ◌+◌, ◌≤◌, ◌<◌, ◌^◌, ◌⊎◌, true, false, ℕ, List, length, Ok, Some, IfOk, IsErrOf, IsTrue};
 ghost use Rattle.rdb_types.specs.declared.file.FileId.{FileId as File};
 ghost use Rattle.rdb_outside.specs.Causes.{Rose};
 ghost use Rattle.rdb_outside.specs.Disk.{OnlyReads};
@@ -10,6 +10,7 @@ ghost use Rattle.line_moves.specs.Calls.{OnlyWrites};
 ghost use Rattle.line_moves.specs.Changes.{IsPlaceOf};
 ghost use Rattle.disk_seats.specs.Ledgers.{Ledger, changing, broken, stands_as};
 ghost use Rattle.disk_seats.specs.Members.{LedgerFacts, IsLeftTo};
+ghost use Rattle.member_steps.specs.declared.journalling.Journalled.TheVariants.{Header};
 ghost use Rattle.member_steps.specs.Journalling.{ledger_with};
 
 use disk_seats::{journal, name_header};
@@ -38,6 +39,8 @@ fn is_named<D: Disk>(disk: &mut D, member: u32, tsn: Tsn) -> Result<bool, Fault>
         → LedgerFacts (D.view disk.old) ledger → ⊥ }
     ensures names { result ≡ Ok true → IsTrue (D.view disk.old).tells
         → named ((D.view disk.new).content (ruj_file member) 0) ≡ tsn.number }
+    ensures another { result ≡ Ok false → IsTrue (D.view disk.old).tells
+        → named ((D.view disk.old).content (ruj_file member) 0) ≢ tsn.number }
 {
     let number = named_by(disk, member)?;
     Ok(number == tsn.number)
@@ -52,6 +55,8 @@ fn needs_header<D: Disk>(disk: &mut D, member: u32, tsn: Tsn, written: u32) -> R
         → IsTrue (D.view disk.old).tells → IsMember member → (ledger : Ledger)
         → LedgerFacts (D.view disk.old) ledger → ⊥ }
     ensures needed { result ≡ Ok true → written ≡ 0 }
+    ensures another { result ≡ Ok true → IsTrue (D.view disk.old).tells
+        → named ((D.view disk.old).content (ruj_file member) 0) ≢ tsn.number }
     ensures named { result ≡ Ok false → IsTrue (D.view disk.old).tells → (1 ≤ written)
         ⊎ (named ((D.view disk.new).content (ruj_file member) 0) ≡ tsn.number) }
 {
@@ -83,6 +88,12 @@ pub fn journal_next<D: Disk>(
     ensures bad { (file : File) (slot : ℕ) → IsErrOf result (Fault.Bad file slot)
         → IsTrue (D.view disk.old).tells → IsMember member → (ledger : Ledger)
         → LedgerFacts (D.view disk.old) ledger → ⊥ }
+
+    // A header is written where it named another transaction or none, and names this one then.
+    ensures another { result ≡ Ok Header → IsTrue (D.view disk.old).tells
+        → named ((D.view disk.old).content (ruj_file member) 0) ≢ tsn.number }
+    ensures names { result ≡ Ok Header → IsTrue (D.view disk.old).tells
+        → named ((D.view disk.new).content (ruj_file member) 0) ≡ tsn.number }
 
     // Whatever it answers, the ledger stays, or but for this member, who can be rolled back.
     ensures keeps { IsTrue (D.view disk.old).tells

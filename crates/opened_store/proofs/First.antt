@@ -15,6 +15,7 @@ use Rattle.line_store.specs.Shelves.{Shelf}
 use Rattle.new_database.specs.Maker.{root_file}
 use Rattle.stable_lines.specs.Slots.{IsAreaFile, area_file, ruj_file, owner_at, line_at}
 use Rattle.stable_lines.specs.Journal.{Journal}
+use Rattle.stable_lines.specs.Kept.{IsWellFormed}
 use Rattle.stable_lines.specs.Progress.{Progress}
 use Rattle.stable_lines.specs.Facts.{Facts}
 use Rattle.line_opening.specs.Passing.{IsNext}
@@ -43,6 +44,7 @@ use Rattle.disk_store.specs.Seats.{steps_at}
 use Rattle.disk_store.specs.Shown.{pages_of, used_in, NumbersStand, TablesStand, VersionsStand, SpaceStands, Shown}
 use Rattle.opened_store.specs.Tables.{AreTablesOf}
 use Rattle.opened_store.proofs.Free.{none-held}
+use Rattle.opened_store.proofs.NeverUsed.{never-used}
 use Rattle.opened_store.proofs.Fresh.{all-sit, none-waits, none-reads, none-kept}
 use Rattle.opened_store.proofs.TakenPages.{tables-long}
 
@@ -175,6 +177,15 @@ module _ (v : View) (t : IsTrue v.tells) (left : LeftNow v v.content) (stable : 
   pub has-committed : (file : ℕ) → IsAreaFile file → HasCommitted (pages_of held.tables file) file lines
   has-committed file is = begins_with v left base facts (λ member. refl) file (pages_of held.tables file) (has.tables file is)
 
+  formed : IsWellFormed v.content start.root.limits.pages
+  formed = record {
+    page = λ file number is plain. facts.pages.page file number (v.content (area_file file) (number - 1)) is plain (pends file number);
+    space = λ file number is page space. facts.pages.space file number (v.content (area_file file) (number - 1)) is page space (pends file number);
+    header = λ member is. facts.pages.header member (v.content (ruj_file member) 0) is (each_slot v v.content left (ruj_file member) 0);
+    owner = λ file number is plain owned. facts.pages.owner file number (v.content (area_file file) (number - 1)) (v.content (area_file file) (space_page_of number - 1)) is plain (pends file number) owned (pends file (space_page_of number));
+    past = λ file slot is le lt. facts.pages.past file slot (v.content (area_file file) slot) is le lt (each_slot v v.content left (area_file file) slot);
+  }
+
   -- ---- what is shown
 
   numbers-stand : NumbersStand v ledger held.numbers held.next
@@ -211,6 +222,7 @@ module _ (v : View) (t : IsTrue v.tells) (left : LeftNow v v.content) (stable : 
         reading = λ s m lines_then at reads seat. absurd (none-reads held.members has.members s m at reads);
         only = λ s reading goes. absurd (none-some reading goes);
         used = λ s file reading start is goes seen. absurd (none-some reading goes);
+        unused = λ file key owner never. never-used v.content file start.root.limits.pages (pages_of held.tables file) formed (has.tables file (area-of file key.area owner)) key owner never;
       }
 
   space-stands : SpaceStands held (first_shelf v held lines).space

@@ -1,6 +1,8 @@
+pub use Rattle.disk_store.proofs as disk_store
 pub mod Free
 pub mod Fresh
 pub mod TakenPages
+pub mod NeverUsed
 pub mod First
 pub mod Behind
 pub mod InUse

@@ -6,5 +6,6 @@ mod opening;
 mod tables;
 mod using;
 
+pub use disk_store::Held;
 pub use laws::{a_crash_leaves_what_opens, a_new_database_opens, snapshot_slots_are_left_out};
 pub use opening::open;

@@ -55,19 +55,24 @@ fn say(rt: &HostRuntime, world: &mut World, text: &str) -> Result<(), NoMemory> 
     Ok(())
 }
 
-fn main(rt: HostRuntime) -> ExitCode {
-    let Ok(mut world) = new_world(rt.alloc()) else {
-        return ExitCode::from(5);
-    };
+// Says each line, and gives the status.
+fn say_lines(rt: &HostRuntime, world: &mut World) -> u8 {
     for line in rt.lines(rt.alloc()) {
         let Ok(line) = line else {
-            return ExitCode::from(3);
+            return 3;
         };
         let text = line.as_str();
         let _ = println!(rt; "{text}");
-        if say(&rt, &mut world, text).is_err() {
-            return ExitCode::from(5);
+        if say(rt, world, text).is_err() {
+            return 5;
         }
     }
-    ExitCode::from(0)
+    0
+}
+
+fn main(rt: HostRuntime) -> ExitCode {
+    match new_world(rt.alloc()) {
+        Ok(mut world) => ExitCode::from(say_lines(&rt, &mut world)),
+        Err(_) => ExitCode::from(5),
+    }
 }

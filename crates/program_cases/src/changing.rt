@@ -165,9 +165,9 @@ fn ends_over<R: Print + AllocGlobal + Threads + Wait + Sync>(
 ) -> Result<Ends, NoMemory> {
     let verified = run_over(rt, "RMU/VERIFY PERS", disk)?;
     let verify = verified.status;
-    let dumped = run_over(rt, "RMU/DUMP PERS", verified.disk)?;
+    let dumped = run_over(rt, "RMU/DUMP PERS", verified.into_disk())?;
     let dump = dumped.status;
-    let read = run_over(rt, run, dumped.disk)?;
+    let read = run_over(rt, run, dumped.into_disk())?;
     Ok(Ends {
         verify,
         dump,

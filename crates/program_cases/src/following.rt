@@ -40,7 +40,7 @@ pub fn behind_head<R: Print + AllocGlobal + Threads + Wait + Sync>(
     let disk = new_database(rt, 0)?;
     let outcome = run_on(rt, words.as_slice(), source, out, disk);
     tell(rt, &outcome);
-    Ok(outcome.disk)
+    Ok(outcome.into_disk())
 }
 
 // What a crash leaves behind so many calls of a run, with all that these wrote; a line as `40 RMU/BACKUP PERS 1`.
@@ -52,7 +52,7 @@ fn cut_off<R: Print + AllocGlobal + Threads + Wait + Sync>(
     let (calls, run) = line.split_once(' ').unwrap_or((line, ""));
     let calls = calls.parse::<u64>().unwrap_or(0);
     let last = disk.moment().number.saturating_add(calls);
-    let disk = run_over(rt, run, disk)?.disk;
+    let disk = run_over(rt, run, disk)?.into_disk();
     let number = last.min(disk.moment().number);
     disk.after(Moment { number }, u32::MAX)
 }
@@ -72,7 +72,7 @@ pub fn tell_each<R: Print + AllocGlobal + Threads + Wait + Sync>(
         } else {
             let outcome = run_over(rt, run, disk)?;
             tell(rt, &outcome);
-            disk = outcome.disk;
+            disk = outcome.into_disk();
         }
     }
     Ok(disk)
@@ -88,7 +88,7 @@ fn run_both<R: Print + AllocGlobal + Threads + Wait + Sync>(
         None => run_over(rt, runs, disk),
         Some((first, second)) => {
             let between = run_over(rt, first, disk)?;
-            run_over(rt, second, between.disk)
+            run_over(rt, second, between.into_disk())
         }
     }
 }
@@ -158,7 +158,7 @@ pub fn tell_crashes<R: Print + AllocGlobal + Threads + Wait + Sync>(
         Some((before, run)) => (tell_each(rt, before, disk)?, run),
     };
     let first = disk.moment().number;
-    let disk = run_over(rt, run, disk)?.disk;
+    let disk = run_over(rt, run, disk)?.into_disk();
     let mut last = Vec::new(rt.alloc());
     for number in first..=disk.moment().number {
         last = tell_picks(rt, then, &disk, Moment { number }, last)?;

@@ -115,7 +115,7 @@ fn new_disk<R: Print + AllocGlobal + Threads + Wait + Sync>(
     rt: &R,
 ) -> Result<MemoryDisk, NoMemory> {
     let words = words_in(rt.alloc(), "NEW P")?;
-    Ok(run_failing(rt, words.as_slice(), Vec::new(rt.alloc()), NONE)?.disk)
+    Ok(run_failing(rt, words.as_slice(), Vec::new(rt.alloc()), NONE)?.into_disk())
 }
 
 /// `over RMU/VERIFY P` runs a command over a new database; `over root 0 0 6 2|RMU/VERIFY P` puts byte 2 at place 6 of slot 0 of the root first.

@@ -13,20 +13,30 @@ mod texts;
 
 use cases::{World, say};
 use std::process::ExitCode;
+use std::sync::Wait;
+use std::thread::Threads;
 
-fn main(rt: HostRuntime) -> ExitCode {
-    let Ok(mut world) = World::new(rt.alloc()) else {
-        return ExitCode::from(5);
-    };
+// Says each line, and gives the status.
+fn say_lines<R: Input + Print + AllocGlobal + Threads + Wait + Sync>(
+    rt: &R,
+    world: &mut World,
+) -> u8 {
     for line in rt.lines(rt.alloc()) {
         let Ok(line) = line else {
-            return ExitCode::from(3);
+            return 3;
         };
         let text = line.as_str();
         let _ = println!(rt; "{text}");
-        if say(&rt, &mut world, text).is_err() {
-            return ExitCode::from(5);
+        if say(rt, world, text).is_err() {
+            return 5;
         }
     }
-    ExitCode::from(0)
+    0
+}
+
+fn main(rt: HostRuntime) -> ExitCode {
+    match World::new(rt.alloc()) {
+        Ok(mut world) => ExitCode::from(say_lines(&rt, &mut world)),
+        Err(_) => ExitCode::from(5),
+    }
 }

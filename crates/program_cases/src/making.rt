@@ -56,7 +56,7 @@ fn left_by<R: Print + AllocGlobal + Threads + Wait + Sync>(
     rt: &R,
     words: &[Word],
 ) -> Result<MemoryDisk, NoMemory> {
-    Ok(run_failing(rt, words, Vec::new(rt.alloc()), NONE)?.disk)
+    Ok(run_failing(rt, words, Vec::new(rt.alloc()), NONE)?.into_disk())
 }
 
 /// Runs the words twice, and tells the second status.

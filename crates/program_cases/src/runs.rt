@@ -24,11 +24,33 @@ impl Gate for OpenGate {
 }
 
 /// What a run left.
-#[derive(Drop)]
 pub struct Outcome {
     pub status: u8,
     pub disk: MemoryDisk,
     pub out: MemorySink,
+}
+
+// By hand, so that it is one call wherever one is let go.
+impl Drop for Outcome {
+    fn drop(self) {
+        let Outcome {
+            status: _,
+            disk: _disk,
+            out: _out,
+        } = self;
+    }
+}
+
+impl Outcome {
+    /// The disk alone.
+    pub fn into_disk(self) -> MemoryDisk {
+        let Outcome {
+            status: _,
+            disk,
+            out: _out,
+        } = self;
+        disk
+    }
 }
 
 /// Runs a command line past a gate that has no session die.
@@ -46,7 +68,6 @@ pub fn run_past<R: Print + AllocGlobal + Threads + Wait + Sync, G: Gate + Sync>(
     let mut out = out;
     let finish = run::<R, Brand, MemoryDisk, MemorySource, MemorySink, G>(
         rt,
-        rt.alloc(),
         words,
         disk,
         &mut source,
@@ -114,7 +135,7 @@ pub fn new_database<R: Print + AllocGlobal + Threads + Wait + Sync>(
         fails.saturating_add(NEW_CALLS)
     };
     let disk = wide_disk(alloc, fails)?;
-    Ok(run_on(rt, words.as_slice(), source, out, disk).disk)
+    Ok(run_on(rt, words.as_slice(), source, out, disk).into_disk())
 }
 
 // Whether the words are a workload, which says scripts of its own.

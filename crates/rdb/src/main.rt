@@ -80,7 +80,6 @@ fn status_of<
     let mut out = HostSink::over(rt)?;
     let finish = run::<R, Brand, D, HostSource<R>, HostSink<R>, OpenGate>(
         rt,
-        alloc,
         words,
         disk,
         &mut scripts,

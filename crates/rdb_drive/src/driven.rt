@@ -56,6 +56,9 @@ pub trait Driven {
     /// What such work came to.
     type Done: Send + Drop;
 
+    /// What whoever works has at hand, and keeps from piece to piece.
+    type Bench: Send + Drop;
+
     /// The events so far, who rests, sleeps or has ended, and the measure that falls.
     ghost board: { Self → Board };
 
@@ -78,7 +81,9 @@ pub trait Driven {
         requires { IsSession sessions s.number }
         ensures { StepOf sessions s.number (board self.old) (board self.new) result };
 
-    fn work(piece: Self::Piece) -> Self::Done;
+    fn bench() -> Self::Bench;
+
+    fn work(piece: Self::Piece, bench: &mut Self::Bench) -> Self::Done;
 
     /// The step that takes what was worked. Where it is answered Frozen, the value keeps what it was given for a later step.
     fn give(&mut self, s: Session, done: Self::Done) -> Step<Self::Piece>

@@ -44,15 +44,16 @@ pub fn drive_in_order<X: Driven, G: Gate>(x: &mut X, sessions: u32, order: &[u32
         steps: 0,
         died: false,
     }; MOST_SESSIONS as usize];
+    let mut bench = X::bench();
     for number in order {
         let of_session = &mut asked[*number as usize - 1];
-        match turn(x, Session { number: *number }, gate, of_session) {
+        match turn(x, Session { number: *number }, gate, of_session, &mut bench) {
             Came::Halts => return false,
             _ => {}
         }
     }
     loop {
-        match go_round(x, sessions, gate, &mut asked) {
+        match go_round(x, sessions, gate, &mut asked, &mut bench) {
             Came::Halts => return false,
             Came::Over => return true,
             _ => {}
@@ -66,6 +67,7 @@ fn go_round<X: Driven, G: Gate>(
     sessions: u32,
     gate: &G,
     asked: &mut [Asked; MOST_SESSIONS as usize],
+    bench: &mut X::Bench,
 ) -> Came
     requires sessions { sessions ≡ X.sessions }
     requires few { sessions ≤ MOST_SESSIONS }
@@ -75,7 +77,7 @@ fn go_round<X: Driven, G: Gate>(
     let mut are_over = true;
     for turns in 0..sessions {
         let of_session = &mut asked[turns as usize];
-        match turn(x, Session { number: turns + 1 }, gate, of_session) {
+        match turn(x, Session { number: turns + 1 }, gate, of_session, bench) {
             Came::Halts => return Came::Halts,
             Came::Over => {}
             _ => are_over = false,
@@ -85,7 +87,13 @@ fn go_round<X: Driven, G: Gate>(
 }
 
 // A whole turn of a session.
-fn turn<X: Driven, G: Gate>(x: &mut X, s: Session, gate: &G, asked: &mut Asked) -> Came
+fn turn<X: Driven, G: Gate>(
+    x: &mut X,
+    s: Session,
+    gate: &G,
+    asked: &mut Asked,
+    bench: &mut X::Bench,
+) -> Came
     requires session { IsSession X.sessions s.number }
     requires mortals { MayDie (G.mortals gate.now) X.mortals }
     ensures { TurnOf X.sessions s.number (X.board x.old) (X.board x.new) result }
@@ -93,7 +101,7 @@ fn turn<X: Driven, G: Gate>(x: &mut X, s: Session, gate: &G, asked: &mut Asked) 
     let mut done = None;
     loop {
         ask(x, s, gate, asked, &mut done);
-        match step(x, s, &mut done) {
+        match step(x, s, &mut done, bench) {
             Came::Went => {}
             came => return came,
         }
@@ -139,14 +147,14 @@ fn dies<X: Driven, G: Gate>(x: &mut X, s: Session, gate: &G, step: u64) -> bool
 }
 
 // One step of a session, with the recovery step that it asks for.
-fn step<X: Driven>(x: &mut X, s: Session, done: &mut Option<X::Done>) -> Came
+fn step<X: Driven>(x: &mut X, s: Session, done: &mut Option<X::Done>, bench: &mut X::Bench) -> Came
     requires { IsSession X.sessions s.number }
     ensures { CameOf X.sessions s.number (X.board x.old) (X.board x.new) result }
 {
     let before = x.answered(s);
     match give_or_next(x, s, done) {
         Step::Compute(piece) => {
-            *done = Some(X::work(piece));
+            *done = Some(X::work(piece, bench));
             Came::Went
         }
         Step::Moved => {

@@ -2,12 +2,15 @@ ghost use Rattle.std.specs.Prelude.{◌≡◌, ◌≤◌};
 ghost use Rattle.rdb_drive.specs.Boards.{IsSession, MayDie};
 
 use crate::bell::{Bells, Shared};
-use crate::driven::{Act, Driven, Gate, Step};
+use crate::driven::{Act, Driven, Gate, Point, Step};
 use crate::order::MOST_SESSIONS;
 use rdb_types::Session;
-use std::sync::{Mutex, Wait};
+use std::sync::{Mutex, MutexGuard, Wait};
 use std::thread;
 use std::thread::Threads;
+
+/// So many steps of a statement a session makes at most before it lets others have the lock. Each step that gave it up would wake a thread that waits for it.
+const STEPS_AT_ONCE: u32 = 64;
 
 /// Drives all sessions, with a thread for each, and gives back what was driven. A session whose thread can't be started is driven by
 /// the caller.
@@ -59,6 +62,18 @@ fn drive_shared<R: Threads + Wait + Sync, X: Driven + Send, G: Gate + Sync>(
     );
 }
 
+// The lock that is held already, or that is waited for.
+fn locked<'b, R: Wait, T>(
+    rt: &R,
+    shared: &'b Mutex<T>,
+    kept: Option<MutexGuard<'b, T>>,
+) -> MutexGuard<'b, T> {
+    match kept {
+        Some(held) => held,
+        None => shared.lock(rt),
+    }
+}
+
 // Drives one session until it has ended or is stopped.
 fn drive_one<R: Wait, X: Driven, G: Gate>(
     rt: &R,
@@ -70,9 +85,12 @@ fn drive_one<R: Wait, X: Driven, G: Gate>(
     requires session { IsSession X.sessions s.number }
     requires mortals { MayDie (G.mortals gate.now) X.mortals }
 {
+    let mut bench = X::bench();
     let mut done = None;
     let mut count: u64 = 0;
     let mut is_asked = true;
+    let mut kept = None;
+    let mut steps = 0u32;
     // (what the next step is, is looked at behind the last one, so that each step locks once)
     let mut point = shared.lock(rt).point(s);
     for _ in rt.forever() {
@@ -85,18 +103,24 @@ fn drive_one<R: Wait, X: Driven, G: Gate>(
             Act::Die => {
                 done = None;
                 is_asked = false;
-                shared.lock(rt).die(s, bells);
+                locked(rt, shared, kept.take()).die(s, bells);
             }
             Act::Go => {
-                let mut held = shared.lock(rt);
+                let mut held = locked(rt, shared, kept.take());
                 let step = held.step(s, done.take(), bells);
                 point = held.point(s);
                 match step {
                     Step::Compute(piece) => {
                         drop(held);
-                        done = Some(X::work(piece));
+                        done = Some(X::work(piece, &mut bench));
                     }
-                    Step::Moved => {}
+                    Step::Moved => {
+                        steps = steps.wrapping_add(1) % STEPS_AT_ONCE;
+                        kept = match point {
+                            Point::Other if steps != 0 => Some(held),
+                            _ => None,
+                        };
+                    }
                     Step::Asleep => point = bells.wait(rt, held, s).point(s),
                     Step::Frozen => {
                         if matches!(held.recover_step(bells), Step::Stopped) {

@@ -7,10 +7,10 @@ use Rattle.rdb_types.specs.declared.session.Cause.TheVariants.{Device, Gate, Mem
 use Rattle.rdb_account.specs.Places.{Opening}
 use Rattle.rdb_drive.specs.Boards.{MayDie}
 use Rattle.rdb_drive.specs.Orders.{upward}
-use Rattle.line_cluster.specs.Sound.{MayFail}
-use Rattle.line_drive.specs.Boards.{mortals_of}
+use Rattle.workload_runs.specs.line_cluster.Sound.{MayFail}
+use Rattle.workload_runs.specs.line_drive.Boards.{mortals_of}
 use Rattle.session_states.specs.declared.item_queue.WholeScript.{WholeScript}
-use Rattle.line_runs.specs.Openings.{said_to}
+use Rattle.workload_runs.specs.line_runs.Openings.{said_to}
 use Rattle.command_words.specs.Words.{MayBeOf}
 use Rattle.command_words.specs.declared.deaths.Death.{Death}
 use Rattle.rdb_top.specs.Deaths.{is_let_die, letting, sessions_dying}

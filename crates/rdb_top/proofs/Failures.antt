@@ -4,9 +4,9 @@ use Rattle.rdb_outside.specs.Causes.{Rose}
 use Rattle.rdb_account.specs.declared.event.Event.{Event as Declared}
 use Rattle.rdb_account.specs.Events.{Event, event_of}
 use Rattle.line_store.specs.declared.answers.Fault.TheVariants as faulty
-use Rattle.line_cluster.specs.declared.sessions.Halt.{Halt}
-use Rattle.line_cluster.specs.declared.sessions.Halt.TheVariants as halts
-use Rattle.line_cluster.specs.Deaths.{RoseBy, device_deaths, failures, faults_in}
+use Rattle.workload_runs.specs.line_cluster.declared.sessions.Halt.{Halt}
+use Rattle.workload_runs.specs.line_cluster.declared.sessions.Halt.TheVariants as halts
+use Rattle.workload_runs.specs.line_cluster.Deaths.{RoseBy, device_deaths, failures, faults_in}
 
 rose-fewer : (m n a b : ℕ) → m ≤ n → RoseBy n a b → RoseBy m a b
 rose-fewer m n a b fewer rose = omega (arith, fewer, rose)

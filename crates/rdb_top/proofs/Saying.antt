@@ -5,8 +5,8 @@ use Rattle.rdb_account.specs.Events.{Event}
 use Rattle.rdb_account.specs.Places.{Opening}
 use Rattle.session_jobs.specs.Records.{Model}
 use Rattle.session_states.specs.declared.item_queue.WholeScript.{WholeScript}
-use Rattle.line_runs.specs.Openings.{OpensWith, said_to}
-use Rattle.line_runs.specs.Prefix.{HoldsAll, HoldsPrefix}
+use Rattle.workload_runs.specs.line_runs.Openings.{OpensWith, said_to}
+use Rattle.workload_runs.specs.line_runs.Prefix.{HoldsAll, HoldsPrefix}
 use Rattle.command_words.specs.declared.deaths.Death.{Death}
 use Rattle.command_words.specs.declared.words.Scripts.{Scripts}
 use Rattle.rdb_top.specs.Deaths.{letting}

@@ -7,8 +7,8 @@ use Rattle.rdb_account.specs.Places.{Opening}
 use Rattle.rdb_account.specs.Legal.{IsLegal}
 use Rattle.script_streams.specs.declared.read.ReadStop.{ReadStop}
 use Rattle.script_streams.specs.declared.read.ReadStop.TheVariants.{Failed, OutOfMemory, TooLong}
-use Rattle.line_cluster.specs.declared.sessions.Halt.{Halt}
-use Rattle.line_cluster.specs.Deaths.{RoseBy, failures}
+use Rattle.workload_runs.specs.line_cluster.declared.sessions.Halt.{Halt}
+use Rattle.workload_runs.specs.line_cluster.Deaths.{RoseBy, failures}
 use Rattle.rdb_top.specs.Runs.{IsWhole, status_at}
 
 pub nothing-said : (o : Opening) → IsLegal o []

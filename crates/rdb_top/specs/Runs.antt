@@ -9,10 +9,10 @@ use Rattle.rdb_account.specs.Legal.{IsLegal}
 use Rattle.rdb_account.specs.Places.{Opening}
 use Rattle.rdb_account.specs.Transcript.{transcript}
 use Rattle.session_states.specs.declared.item_queue.WholeScript.{WholeScript}
-use Rattle.line_cluster.specs.declared.sessions.Halt.{Halt}
-use Rattle.line_cluster.specs.Turned.{HaveAllEnded}
-use Rattle.line_drive.specs.Turns.{KeepsTurns}
-use Rattle.line_runs.specs.Openings.{HasNoNumbers, said_to}
+use Rattle.workload_runs.specs.line_cluster.declared.sessions.Halt.{Halt}
+use Rattle.workload_runs.specs.line_cluster.Turned.{HaveAllEnded}
+use Rattle.workload_runs.specs.line_drive.Turns.{KeepsTurns}
+use Rattle.workload_runs.specs.line_runs.Openings.{HasNoNumbers, said_to}
 use Rattle.command_words.specs.declared.words.Scripts.{Scripts}
 use Rattle.command_words.specs.declared.words.Command.{Command}
 use Rattle.command_words.specs.declared.words.Command.TheVariants.{New, Rdo, Workload, Verify, Dump, DumpPage, Backup, BackupJournal, Restore, Recover}

@@ -5,7 +5,7 @@ use Rattle.new_database.specs.New.{IsNewDatabaseOrNone}
 use Rattle.rdb_meaning.specs.Contents.{no_tables}
 use Rattle.rdb_account.specs.declared.event.Event.{Event}
 use Rattle.session_jobs.specs.Records.{Model}
-use Rattle.line_runs.specs.Prefix.{HoldsAll}
+use Rattle.workload_runs.specs.line_runs.Prefix.{HoldsAll}
 use Rattle.command_words.specs.Options.{limits_of, nothing_asked}
 use Rattle.command_words.specs.Words.{database_place}
 use Rattle.workload_runs.specs.Among.{may_die_by}

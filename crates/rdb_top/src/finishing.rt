@@ -8,16 +8,14 @@ ghost use Rattle.workload_runs.specs.Statuses.{IsBadOpening, IsOverLine, IsOverS
 
 use crate::scripts::write_transcripts;
 use crate::stopping::status_stopped;
-use line_cluster::Halt;
 use line_opening::OpeningFault;
-use line_runs::LineRun;
 use line_store::Fault;
 use rdb_account::{Event, Events};
 use rdb_outside::Sink;
 use rdb_types::Items;
 use std::alloc::Global;
 use workload_replies::some_died;
-use workload_runs::status_of_fault;
+use workload_runs::{Halt, LineRun, status_of_fault};
 
 /// How a run ended, and what happened in it.
 #[derive(Drop)]

@@ -6,14 +6,12 @@ ghost use Rattle.rdb_top.specs.Runs.{transcripts};
 ghost use Rattle.workload_runs.specs.Statuses.{stopped_status};
 
 use crate::scripts::write_transcripts;
-use line_cluster::Halt;
-use line_runs::LineRun;
 use line_store::Fault;
 use rdb_account::Event;
 use rdb_outside::{Disk, Sink};
 use std::alloc::Global;
 use watched_disk::{Beginning, WatchedDisk};
-use workload_runs::{seen, status_of_halt};
+use workload_runs::{Halt, LineRun, seen, status_of_halt};
 
 /// What was run over a watched disk, over the disk. That a call of it stopped the sessions is told where one failed.
 pub fn unwatched<B: Beginning, D: Disk + Drop>(ran: LineRun<WatchedDisk<B, D>>) -> LineRun<D>

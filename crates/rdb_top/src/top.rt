@@ -5,6 +5,7 @@ ghost use Rattle.rdb_outside.specs.Causes.{Rose};
 ghost use Rattle.rdb_outside.specs.Disk.{Image, LeftNow, LeavesOnly, Keeps, OnlyReads};
 ghost use Rattle.new_database.specs.Maker.{IsUnmade, HasRoot};
 ghost use Rattle.new_database.specs.New.{IsNewDatabase, IsNewDatabaseOrNone};
+ghost use Rattle.rdb_meaning.specs.declared.tables.Tables.{Tables};
 ghost use Rattle.command_words.specs.declared.words.Scripts.{Scripts as GivenScripts};
 ghost use Rattle.command_words.specs.declared.words.PagePlace.{PagePlace as GivenPage};
 ghost use Rattle.command_words.specs.Copies.{copies_in};
@@ -13,13 +14,13 @@ ghost use Rattle.script_streams.specs.Fronts.{WritesFront};
 ghost use Rattle.rdb_drive.specs.Boards.{IsSession, MayDie};
 ghost use Rattle.rdb_account.specs.Events.{event_of};
 ghost use Rattle.rdb_account.specs.Legal.{IsLegal};
-ghost use Rattle.line_cluster.specs.Deaths.{RoseBy, device_deaths, failures};
-ghost use Rattle.line_cluster.specs.Sound.{FollowsScripts, MayFail, is_over_slot, is_unsound};
-ghost use Rattle.line_cluster.specs.Turned.{HaveAllEnded};
-ghost use Rattle.line_drive.specs.Boards.{mortals_of};
-ghost use Rattle.line_drive.specs.Turns.{KeepsTurns};
-ghost use Rattle.line_runs.specs.Openings.{HasNoNumbers, HasSpent, OpensWith, said_to};
-ghost use Rattle.line_runs.specs.Prefix.{HoldsAll, HoldsPrefix};
+ghost use Rattle.workload_runs.specs.line_cluster.Deaths.{RoseBy, device_deaths, failures};
+ghost use Rattle.workload_runs.specs.line_cluster.Sound.{FollowsScripts, MayFail, is_over_slot, is_unsound};
+ghost use Rattle.workload_runs.specs.line_cluster.Turned.{HaveAllEnded};
+ghost use Rattle.workload_runs.specs.line_drive.Boards.{mortals_of};
+ghost use Rattle.workload_runs.specs.line_drive.Turns.{KeepsTurns};
+ghost use Rattle.workload_runs.specs.line_runs.Openings.{HasNoNumbers, HasSpent, OpensWith, said_to};
+ghost use Rattle.workload_runs.specs.line_runs.Prefix.{HoldsAll, HoldsPrefix, StandsFor};
 ghost use Rattle.backup_making.specs.Making.{file_of as backup_named};
 ghost use Rattle.database_opening.specs.Others.{KeepsFile};
 ghost use Rattle.journal_backup.specs.Copied.{copy_named};
@@ -46,14 +47,11 @@ use crate::stopping::unwatched;
 use crate::working::{Task, run_workload};
 use command_words::{Command, Scripts, command_of, order_of};
 use lent_values::{Naming, Opened};
-use line_cluster::{Halt, Origin};
 use line_opening::OpeningFault;
-use line_runs::{LineRun, Said, say_in_order, say_in_threads};
 use line_store::Fault;
 use rdb_drive::Gate;
 use rdb_outside::{Disk, Sink, Source};
 use rdb_types::{Copied, Items, NoMemory, Word};
-use rdo_reserving::ReservingStatements;
 use rmu_commands::{dump_command, page_command, verify_command};
 use rmu_keeping::{backup_command, journal_command, restore_command};
 use script_streams::ReadStop;
@@ -64,6 +62,9 @@ use std::marker::{Brand, Send};
 use std::sync::Wait;
 use std::thread::Threads;
 use watched_disk::{Beginning, WatchedDisk};
+use workload_runs::{
+    Halt, LineRun, Origin, ReservingStatements, Said, say_in_order, say_in_threads,
+};
 
 /// The words of a command that says scripts.
 #[derive(Clone, Copy)]
@@ -91,12 +92,12 @@ fn status_of(stop: ReadStop) -> u8
 
 // Runs the sessions of an origin: by the order, where the words have one, else in threads. The disk is watched meanwhile.
 fn run_of<
-    R: Threads + Wait + Sync,
+    R: Threads + Wait + Sync + AllocGlobal,
     O: Origin + Naming + Send,
     B: Beginning + Send,
     D: Disk + Drop + Send,
     G: Gate + Sync,
->(rt: &R, alloc: Global, disk: D, said: Said, given: Scripts, order: &[u32], gate: &G) -> LineRun<D>
+>(rt: &R, disk: D, said: Said, given: Scripts, order: &[u32], gate: &G) -> LineRun<D>
     requires sessions { length said.scripts.items ≡ O.sessions }
     requires few { O.sessions ≤ 16 }
     requires short { All (λ script. length script.items < 2 ^ 32) said.scripts.items }
@@ -122,6 +123,7 @@ fn run_of<
     ensures failed { result.fault ≡ Some OpeningFault.Failed → Rose (D.view disk).faults (D.view result.disk).faults }
     ensures bad { (file : File) (slot : ℕ) → result.fault ≡ Some (OpeningFault.Bad file slot) → HasNoNumbers (D.view disk) }
 {
+    let alloc = rt.alloc();
     let disk = WatchedDisk::<B, D>::new(disk);
     if given.has_order {
         unwatched(say_in_order::<O, WatchedDisk<B, D>, G>(alloc, disk, said, order, gate))
@@ -161,7 +163,12 @@ fn unopened<D: Drop>(alloc: Global, disk: D) -> LineRun<D>
 }
 
 // Says the items of the scripts to the database that the words name. The disk holds what the origin names.
-fn say_scripts<R: Threads + Wait + Sync, O: Origin, D: Disk + Drop + Send, G: Gate + Sync>(
+fn say_scripts<
+    R: Threads + Wait + Sync + AllocGlobal,
+    O: Origin,
+    D: Disk + Drop + Send,
+    G: Gate + Sync,
+>(
     rt: &R,
     alloc: Global,
     asked: Asked<'_>,
@@ -195,7 +202,6 @@ fn say_scripts<R: Threads + Wait + Sync, O: Origin, D: Disk + Drop + Send, G: Ga
         Err(_) => unopened(alloc, disk),
         Ok(Named { word, order }) => run_of::<R, Brand, Brand, D, Dying<'_, G>>(
             rt,
-            alloc,
             disk,
             Said {
                 word,
@@ -211,21 +217,13 @@ fn say_scripts<R: Threads + Wait + Sync, O: Origin, D: Disk + Drop + Send, G: Ga
 
 // Reads the scripts, says them to the database and writes what was answered.
 fn run_rdo<
-    R: Threads + Wait + Sync,
+    R: Threads + Wait + Sync + AllocGlobal,
     O: Origin,
     D: Disk + Drop + Send,
     S: Source,
     K: Sink,
     G: Gate + Sync,
->(
-    rt: &R,
-    alloc: Global,
-    asked: Asked<'_>,
-    disk: D,
-    scripts: &mut S,
-    out: &mut K,
-    gate: &G,
-) -> Finish<D>
+>(rt: &R, asked: Asked<'_>, disk: D, scripts: &mut S, out: &mut K, gate: &G) -> Finish<D>
     requires row { command_for asked.words.now ≡ Some (Command.Rdo asked.given) }
     requires last { AreLast asked.words.now asked.given }
     requires mortal { MayFail O.opening }
@@ -263,6 +261,7 @@ fn run_rdo<
     ensures written { K.tells out.old ≡ true → IsWritten result.status → K.taken out.new ≡ K.taken out.old ++ transcripts asked.entry.given.count result.events }
     ensures front { K.tells out.old ≡ true → WritesFront (K.taken out.old) (K.taken out.new) (transcripts asked.entry.given.count result.events) }
 {
+    let alloc = rt.alloc();
     match read_scripts(alloc, scripts, asked.given.count) {
         Err(stop) => unsaid(alloc, status_of(stop), disk),
         Ok(items) => {
@@ -276,7 +275,6 @@ fn run_rdo<
 /// Runs a command: `NEW` makes a database, `RDO` says 1 to 16 scripts to a database, each by a session of its own, `RMU/VERIFY` lists the faults of a database, `RMU/DUMP` and `RMU/DUMP/PAGE` tell what it holds, `RMU/BACKUP` and `RMU/BACKUP/AFTER_JOURNAL` copy a database and its journal, `RMU/RESTORE` makes a database of a backup, `RMU/RECOVER` rolls it forward over its journals, and `WORKLOAD` makes a database, has sessions of its own work in it and verifies it.
 pub fn run<R, O, D, S, K, G>(
     rt: &R,
-    alloc: Global,
     words: &[Word],
     disk: D,
     scripts: &mut S,
@@ -284,7 +282,7 @@ pub fn run<R, O, D, S, K, G>(
     gate: &G,
 ) -> Finish<D>
 where
-    R: Threads + Wait + Sync,
+    R: Threads + Wait + Sync + AllocGlobal,
     O: Origin,
     D: Disk + Drop + Send,
     S: Source,
@@ -371,6 +369,9 @@ where
     // Status 0 of VERIFY means that all pages pass their decoders, owners agree and the lines are sound.
     ensures clean { command_for words.now ≡ Some Command.Verify → result.status ≡ 0 →
         IsTrue (D.view disk).tells → IsCleanDatabase (D.view disk).content }
+    // Over files that stand for tables, as sessions leave them, VERIFY finds no fault.
+    ensures faultless { command_for words.now ≡ Some Command.Verify → IsTrue (D.view disk).tells →
+        (tables : Tables) → StandsFor ⟦<ReservingStatements as Statements>⟧.stands tables (D.view disk).content → result.status ≡ 7 → ⊥ }
     // DUMP writes what the database is and holds.
     ensures dumps { command_for words.now ≡ Some Command.Dump →
         Dumps (D.view disk) result.status (K.tells out.old ≡ true) (K.taken out.old) (K.taken out.new) }
@@ -510,12 +511,15 @@ where
     // It is refused only where the database that it leaves has used up its numbers.
     ensures workload_refused { is_workload (command_for words.now) ≡ true → IsTrue (D.view disk).tells → IsUnmade (D.view disk) → result.status ≡ 4 →
         HasNoNumbers (D.view result.disk) }
-    // Where no call on the disk or the sink failed it ends with 0, 4, 5, 7 or 8.
+    // VERIFY finds no fault behind it.
+    ensures workload_faultless { is_workload (command_for words.now) ≡ true → IsTrue (D.view disk).tells → IsUnmade (D.view disk) → result.status ≡ 7 → ⊥ }
+    // Where no call on the disk or the sink failed it ends with 0, 4, 5 or 8.
     ensures workload_unharmed { is_workload (command_for words.now) ≡ true → IsTrue (D.view disk).tells → IsUnmade (D.view disk) →
         (Rose (D.view disk).faults (D.view result.disk).faults → ⊥) → (Rose (K.faults out.old) (K.faults out.new) → ⊥) → is_unharmed result.status ≡ true }
     // Its statuses.
     ensures workload_statuses { is_workload (command_for words.now) ≡ true → is_workload_status result.status ≡ true }
 {
+    let alloc = rt.alloc();
     let mut disk = disk;
     match command_of(words) {
         None => unsaid(alloc, 1, disk),
@@ -554,7 +558,7 @@ where
         }
         Some(Command::Rdo(given)) => {
             let asked = Asked { words, given };
-            run_rdo::<R, O, D, S, K, G>(rt, alloc, asked, disk, scripts, out, gate)
+            run_rdo::<R, O, D, S, K, G>(rt, asked, disk, scripts, out, gate)
         }
     }
 }

@@ -5,31 +5,29 @@ ghost use Rattle.rdb_outside.specs.Disk.{Keeps};
 ghost use Rattle.root_file.specs.Root.{AreLimits};
 ghost use Rattle.new_database.specs.Maker.{IsUnmade, HasRoot};
 ghost use Rattle.rdb_account.specs.Events.{event_of};
-ghost use Rattle.line_cluster.specs.Deaths.{RoseBy, device_deaths};
+ghost use Rattle.workload_runs.specs.line_cluster.Deaths.{RoseBy, device_deaths};
 ghost use Rattle.command_words.specs.Options.{limits_of, nothing_asked};
 ghost use Rattle.command_words.specs.Words.{command_of as command_for, AreAccounts};
 ghost use Rattle.rmu_commands.specs.Written.{HasText};
 ghost use Rattle.workload_replies.specs.Replies.{has_death};
 ghost use Rattle.workload_runs.specs.Deaths.{HaveCauses, SomeDied};
 ghost use Rattle.workload_runs.specs.Reports.{Reports};
-ghost use Rattle.line_runs.specs.Openings.{HasNoNumbers};
+ghost use Rattle.workload_runs.specs.line_runs.Openings.{HasNoNumbers};
 ghost use Rattle.workload_runs.specs.Statuses.{is_unharmed, is_workload_status, have_death, stopped_status};
 ghost use Rattle.rdb_top.specs.Workloads.{AreWorkloadRuns, EndIn, LeavesAll, LeavesRuns, database_in};
 
 use crate::finishing::{Finish, unsaid};
 use command_words::{Command, database_word, usual_limits};
-use line_cluster::Halt;
 use rdb_drive::Gate;
 use rdb_outside::{Disk, Sink};
 use rdb_types::{Copied, Items, NoMemory, Word};
-use rdo_reserving::ReservingStatements;
 use session_jobs::Statements;
 use std::alloc::Global;
 use std::marker::Send;
 use std::sync::Wait;
 use std::thread::Threads;
 use watched_disk::Beginning;
-use workload_runs::{Plan, WorkloadEnd, workload};
+use workload_runs::{Halt, Plan, ReservingStatements, WorkloadEnd, workload};
 
 // The workload that the words name.
 fn plan_of(alloc: Global, words: &[Word], accounts: u32) -> Result<Plan, NoMemory>
@@ -130,6 +128,7 @@ where
         LeavesRuns ⟦<ReservingStatements as Statements>⟧.stands task.entry.words.now (G.mortals gate.now) task.entry.accounts (D.view disk) (D.view result.disk) result.status result.earlier result.events }
     ensures left { IsTrue (D.view disk).tells → IsUnmade (D.view disk) →
         LeavesAll ⟦<ReservingStatements as Statements>⟧.stands task.entry.words.now (G.mortals gate.now) task.entry.accounts (D.view result.disk) result.status result.earlier result.events }
+    ensures faultless { IsTrue (D.view disk).tells → IsUnmade (D.view disk) → result.status ≡ 7 → ⊥ }
     ensures unharmed { IsTrue (D.view disk).tells → IsUnmade (D.view disk) →
         (Rose (D.view disk).faults (D.view result.disk).faults → ⊥) → (Rose (K.faults out.old) (K.faults out.new) → ⊥) → is_unharmed result.status ≡ true }
     ensures taken { result.status ≡ 9 → IsTrue (D.view disk).tells → HasRoot (D.view disk).content }

@@ -1,7 +1,7 @@
 -- How an item is worked that the transaction that is open doesn't refuse.
 use Rattle.std.specs.Prelude.{◌≡◌, ◌&&◌, Bool, true, false, List, [], ◌∷◌}
 use Rattle.rdo_ast.specs.declared.syntax.Reservation.{Reservation}
-use Rattle.rdo_ast.specs.Tree.{Expression, number, text, field, negative, chain, count, statistic, Operations, no_operation, operation, Shown, value, all_fields, Act, store, for_each, print, modify, erase, Command, invoke, start_read_only, start_read_write, commit, rollback, finish, perform, define_field, define_relation, define_index, delete_relation, delete_index}
+use Rattle.rdo_ast.specs.Tree.{Expression, number, text, field, negative, chain, count, statistic, Operations, no_operation, operation, Shown, value, all_fields, Act, store, for_each, print, modify, erase, Command, Uttered, said, syntax_fault, invoke, start_read_only, start_read_write, commit, rollback, finish, perform, define_field, define_relation, define_index, delete_relation, delete_index}
 use Rattle.rdb_meaning.specs.Checks.{Use, source_uses, shown_uses, act_uses}
 use Rattle.rdb_meaning.specs.Evaluation.{sources_of}
 use Rattle.rdo_exec.specs.declared.way.Way.{Way}
@@ -103,3 +103,8 @@ IsWay Strange command = IsUnranged command
 abbrev pub IsViewing : Command → Type 0
 IsViewing (perform a) = names_any (act_uses a []) ≡ true
 IsViewing command = IsDefining command
+
+-- the same of an item
+abbrev pub IsViewed : Uttered → Type 0
+IsViewed (said command) = IsViewing command
+IsViewed (syntax_fault line column) = ⊥

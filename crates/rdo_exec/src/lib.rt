@@ -15,3 +15,4 @@ mod statements;
 mod way;
 
 pub use statements::RdoStatements;
+pub use way::is_viewed;

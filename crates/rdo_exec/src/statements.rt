@@ -1,5 +1,5 @@
 // Who works statements over lines.
-ghost use Rattle.std.specs.Prelude.{◌≡◌, ℕ, List, None, IfOk, IfErr};
+ghost use Rattle.std.specs.Prelude.{◌≡◌, ℕ, List, None, Some, Ok, IfOk, IfErr};
 ghost use Rattle.rdo_ast.specs.Tree.{said};
 ghost use Rattle.rdo_ast.specs.Views.{command_of, uttered_of};
 ghost use Rattle.rdo_ast.specs.declared.reply.Standing.TheVariants.{Closed as closed};
@@ -7,6 +7,7 @@ ghost use Rattle.rdb_meaning.specs.Meaning.{standing_refusal};
 ghost use Rattle.rdb_account.specs.Lawful.{first_refusal as refusal_first};
 ghost use Rattle.rdb_account.specs.Places.{begins};
 ghost use Rattle.line_view.specs.Held.{knows};
+ghost use Rattle.catalog.specs.declared.reading.Catalog.{Catalog};
 ghost use Rattle.catalog.specs.Reading.{IsWhole, StopsCatalog};
 ghost use Rattle.sound_maps.specs.Maps.{IsSoundWith};
 ghost use Rattle.session_jobs.specs.Jobs.{IsFound, IsFoundFor, HasCause, NamesOnce, IsOutside, NamesNoNeed};
@@ -16,6 +17,7 @@ ghost use Rattle.rdo_exec.specs.Left.{IsLeft};
 ghost use Rattle.rdo_exec.specs.Needed.{ItemNeeds};
 ghost use Rattle.rdo_exec.specs.Ways.{IsBare, IsReserving, IsViewing};
 ghost use Rattle.rdo_exec.specs.Coming.{IsCatalogOfKnown, Asks, Comes, FitsKnown};
+ghost use Rattle.rdo_exec.specs.Lasting.{StaysKept};
 
 use crate::acting::act_by;
 use crate::bare::act_bare;
@@ -90,6 +92,7 @@ fn catalog_of(alloc: Global, known: &Known, kept: Option<Schema>) -> Result<Sche
     ensures catalog { IfOk result (IsCatalogOfKnown (knows known.now)) }
     ensures whole { IfOk result IsWhole }
     ensures stop { IfErr result (StopsCatalog (knows known.now)) }
+    ensures same { (c : Catalog) → kept ≡ Some c → result ≡ Ok c }
 {
     match kept {
         Some(schema) => Ok(schema),
@@ -110,6 +113,7 @@ fn viewed(
     requires kept { FitsKnown kept (knows known) }
     ensures known { result.known ≡ known }
     ensures kept { FitsKnown result.kept (knows known) }
+    ensures same { StaysKept kept result.kept }
     ensures asked { Asks standing.now (said (command_of statement.now)) (knows known) result.found }
     ensures needs { ItemNeeds (said (command_of statement.now)) (knows known) result.found }
     ensures comes { (word : List ℕ) → Comes word standing.now (said (command_of statement.now)) (knows known) result.found }
@@ -145,6 +149,7 @@ fn work_statement(
     requires kept { FitsKnown kept (knows known) }
     ensures known { result.known ≡ known }
     ensures kept { FitsKnown result.kept (knows known) }
+    ensures same { StaysKept kept result.kept }
     ensures asked { Asks standing.now (said (command_of statement.now)) (knows known) result.found }
     ensures needs { ItemNeeds (said (command_of statement.now)) (knows known) result.found }
     ensures comes { Comes word.now standing.now (said (command_of statement.now)) (knows known) result.found }
@@ -188,6 +193,7 @@ fn work_on(
     requires kept { FitsKnown kept (knows known) }
     ensures known { result.known ≡ known }
     ensures kept { FitsKnown result.kept (knows known) }
+    ensures same { StaysKept kept result.kept }
     ensures asked { Asks standing.now (uttered_of item.now) (knows known) result.found }
     ensures needs { ItemNeeds (uttered_of item.now) (knows known) result.found }
     ensures comes { Comes word.now standing.now (uttered_of item.now) (knows known) result.found }
@@ -213,6 +219,7 @@ fn worked(
     requires { FitsKnown kept (knows known) }
     ensures known { result.known ≡ known }
     ensures kept { FitsKnown result.kept (knows known) }
+    ensures same { StaysKept kept result.kept }
     ensures right { IsFound IsSoundWith word.now standing.now (uttered_of item.now) (knows known) result.found }
     ensures left { result.found ≡ Found.Unworked → IsLeft word.now standing.now (uttered_of item.now) (knows known) }
     ensures once { NamesOnce result.found }
@@ -249,7 +256,7 @@ impl Statements for RdoStatements {
         None
     }
 
-    // Beside what each executor promises: what the item lacks first, and that what begins no transaction and is said outside one is answered, unless memory fails.
+    // Beside what each executor promises: what the item lacks first; that what begins no transaction and is said outside one is answered, unless memory fails; and that what was kept is kept.
     fn work(job: Job, kept: Option<Schema>) -> Answer<Option<Schema>>
         requires { FitsKnown kept (knows job.known) }
         ensures job { result.job ≡ job }
@@ -260,6 +267,7 @@ impl Statements for RdoStatements {
         ensures outside { IsOutside job → NamesNoNeed result.found }
         ensures needs { ItemNeeds (uttered_of job.item) (knows job.known) result.found }
         ensures settled { IsOutside job → IsSettled result.found }
+        ensures same { StaysKept kept result.kept }
     {
         let Job {
             alloc,

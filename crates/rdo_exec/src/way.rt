@@ -1,12 +1,12 @@
 // How a statement is worked that the transaction that is open doesn't refuse.
-ghost use Rattle.std.specs.Prelude.{◌≡◌};
+ghost use Rattle.std.specs.Prelude.{◌≡◌, true};
 ghost use Rattle.rdo_ast.specs.Tree.{perform};
-ghost use Rattle.rdo_ast.specs.Views.{act_of, command_of};
-ghost use Rattle.rdo_exec.specs.Ways.{IsWay};
+ghost use Rattle.rdo_ast.specs.Views.{act_of, command_of, uttered_of};
+ghost use Rattle.rdo_exec.specs.Ways.{IsWay, IsViewed};
 
 use crate::naming::names_relation;
 use crate::plainness::is_bare;
-use rdo_ast::syntax::{Action, Statement};
+use rdo_ast::syntax::{Action, Item, Statement};
 
 #[derive(Clone, Copy)]
 pub(crate) enum Way {
@@ -56,5 +56,19 @@ pub(crate) fn way_of(statement: &Statement) -> Way
         | Statement::Commit
         | Statement::Rollback
         | Statement::Finish => Way::Plain,
+    }
+}
+
+#[tactic(auto, using(crate::proofs::Viewing::naming_views, crate::proofs::Viewing::defining_views))]
+/// Whether an item that nothing refuses before is worked over a view, by the catalog that is kept or else read.
+pub fn is_viewed(item: &Item) -> bool
+    ensures { result ≡ true → IsViewed (uttered_of item.now) }
+{
+    match item {
+        Item::Statement(statement) => match way_of(statement) {
+            Way::Acting | Way::Defining => true,
+            Way::Plain | Way::Reserving | Way::Bare | Way::Strange => false,
+        },
+        Item::SyntaxAt { .. } => false,
     }
 }

@@ -6,19 +6,21 @@ ghost use Rattle.reserved_locks.specs.Reserved.{AreLocksOf, AreOnAreas, IsUnname
 
 use crate::reaching::reached_by_catalog;
 use catalog::read_catalog;
+use lent_jobs::Remembers;
 use line_view::{Known, Stop};
 use rdb_types::NoMemory;
 use rdo_ast::reply::Standing;
 use rdo_ast::syntax::{Item, Reservation};
 use rdo_exec::RdoStatements;
 use reached_changes::Reaches;
+use remembered_catalog::CatalogMemory;
 use reserved_locks::{LockNeeds, Reserves, Unnamed, locks_in};
 use session_jobs::{Answer, Job, Statements};
 use std::alloc::Global;
 use stored_schema::Schema;
 
-/// It works statements as `RdoStatements` does, and by the catalog of what is known it names the locks of reservations, and tells of
-/// changes that nothing refuses before their work.
+/// It works statements as `RdoStatements` does, and remembers the catalog from job to job; and by the catalog of what is known it names
+/// the locks of reservations, and tells of changes that nothing refuses before their work.
 #[derive(Drop)]
 pub struct ReservingStatements {}
 
@@ -50,6 +52,18 @@ impl Statements for ReservingStatements {
     ghost empty = { empty };
 
     ghost lasts = { lasts };
+}
+
+impl Remembers for ReservingStatements {
+    type Memory = CatalogMemory;
+
+    fn nothing_yet() -> CatalogMemory {
+        CatalogMemory::new()
+    }
+
+    fn work_again(job: Job, memory: &mut CatalogMemory) -> Answer<()> {
+        memory.work(job)
+    }
 }
 
 // The locks of reservations, by the catalog of what is known.

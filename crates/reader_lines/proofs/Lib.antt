@@ -1,2 +1,3 @@
+pub use Rattle.seen_lines.proofs as seen_lines
 pub mod Still
 pub mod Unseen

@@ -43,8 +43,9 @@ use Rattle.disk_store.proofs.Kept.{kept-stays}
 use Rattle.disk_store.proofs.Ordered.{group-long, same-writes}
 use Rattle.disk_store.proofs.Beside.{StaysWith, same-classes, stays-with}
 use Rattle.disk_store.proofs.Stepping.{ComesTo, does-any}
-use Rattle.disk_store.proofs.Passing.{Passes, passes-reads, reads-leave, reads-ceiling, tables-pass, slots-pass}
+use Rattle.disk_store.proofs.Passing.{Passes, header-read, passes-reads, reads-leave, reads-ceiling, tables-pass, slots-pass}
 use Rattle.disk_store.proofs.LinesPut.{all-used}
+use Rattle.disk_store.proofs.Unused.{unused-behind}
 use Rattle.disk_store.proofs.Landed.{slot-behind, number-behind, tables-landed, becomes-landed, takes-landed}
 use Rattle.disk_store.proofs.Judged.{judged-at, its, as-held, slot-is}
 
@@ -114,7 +115,7 @@ module _ (v w : View) (held : StoreMemory) (s : ℕ) (m : Member) (was : slice_g
       facts = facts;
       limits = refl;
       none = λ t apart rests. standing-beside t apart ∙ rests;
-      others = λ t x apart got stood. stays-with v w g k t (λ file page is. p.areas.content file _) (same-classes v w p.areas) (stays t apart) x stood;
+      others = λ t x apart got stood. stays-with v w g k t (λ file page is. p.areas.content file _) (same-classes v w p.areas) (stays t apart) x (header-read v w shown.tells only t) stood;
       mine = ap (λ (x : ℕ). cond (s == x) resting (g.standing s)) j.commit.its ∙ ap (λ (b : Bool). cond b resting (g.standing s)) (itself s);
       numbered = record {
         number = shown.numbers.number;
@@ -132,6 +133,7 @@ module _ (v w : View) (held : StoreMemory) (s : ℕ) (m : Member) (was : slice_g
       readers = member_lands w g held.limits.snaps shown.versions.course shown.versions.waiting c w.moment (left told) facts-now facts j.commit.under_way j.flying (p.readers g held.limits.snaps shown.versions.course shown.versions.waiting shown.versions.readers);
       slots = slots-pass v w p shown.versions.course.followed held.limits.snaps held.slots shown.versions.slots;
       used = λ t file reading start is goes lines. all-used held.tables m.written.lines kept puts file start (shown.versions.used t file reading start is goes lines);
+      unused = unused-behind w g (left told) facts-now held sound s m was c j.commit.under_way (λ i undo got. j.commit.keys i undo got) shown.versions.course (lines_with g.base c.flight) kept puts shown.versions.unused;
       waits = tt;
       waits_beside = λ t apart. ap (λ (x : ℕ). cond (t == x) [] (shown.versions.waiting t)) j.commit.its ∙ ap (λ (b : Bool). cond b [] (shown.versions.waiting t)) apart;
       reads = λ t. refl;

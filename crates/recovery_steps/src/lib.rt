@@ -6,3 +6,4 @@ mod recovering;
 
 pub use judging::judge;
 pub use recovering::recover;
+pub use store_endings::{die, end_reading, put_away, roll_back};

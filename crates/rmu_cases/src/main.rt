@@ -34,19 +34,24 @@ fn say(rt: &HostRuntime, disk: &mut MemoryDisk, text: &str) -> Result<(), NoMemo
     Ok(())
 }
 
-fn main(rt: HostRuntime) -> ExitCode {
-    let Ok(mut disk) = new_disk(rt.alloc(), "0") else {
-        return ExitCode::from(5);
-    };
+// Says each line, and gives the status.
+fn say_lines(rt: &HostRuntime, disk: &mut MemoryDisk) -> u8 {
     for line in rt.lines(rt.alloc()) {
         let Ok(line) = line else {
-            return ExitCode::from(3);
+            return 3;
         };
         let text = line.as_str();
         let _ = println!(rt; "{text}");
-        if say(&rt, &mut disk, text).is_err() {
-            return ExitCode::from(5);
+        if say(rt, disk, text).is_err() {
+            return 5;
         }
     }
-    ExitCode::from(0)
+    0
+}
+
+fn main(rt: HostRuntime) -> ExitCode {
+    match new_disk(rt.alloc(), "0") {
+        Ok(mut disk) => ExitCode::from(say_lines(&rt, &mut disk)),
+        Err(_) => ExitCode::from(5),
+    }
 }

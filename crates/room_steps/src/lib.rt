@@ -6,6 +6,7 @@ mod housing;
 mod lodging;
 mod naming;
 
+pub use gathering_steps::{Round, fetch_gathered};
 pub use given::Given;
 pub use housing::house;
 pub use lodging::lodge;

@@ -62,7 +62,6 @@ fn scripts_of(alloc: Global, texts: &[Bytes]) -> Result<Vec<WholeScript>, NoMemo
 }
 
 /// What a case has so far.
-#[derive(Drop)]
 struct Case {
     scripts: Vec<Bytes>,
     limits: Limits,
@@ -70,6 +69,18 @@ struct Case {
     is_on_disk: bool,
     /// The device call of its sessions that fails.
     fails: Option<u32>,
+}
+
+// By hand, so that it is one call wherever one is let go.
+impl Drop for Case {
+    fn drop(self) {
+        let Case {
+            scripts: _scripts,
+            limits: _,
+            is_on_disk: _,
+            fails: _,
+        } = self;
+    }
 }
 
 fn new_case(alloc: Global) -> Result<Case, NoMemory> {
@@ -140,21 +151,31 @@ fn tell<R: Print>(rt: &R, out: &Bytes) {
     }
 }
 
-fn main(rt: HostRuntime) -> ExitCode {
-    let Ok(mut case) = new_case(rt.alloc()) else {
-        return ExitCode::from(5);
-    };
+// Echoes a line, and tells what comes of it.
+fn say_line(rt: &HostRuntime, case: &mut Case, text: &str) -> Result<(), NoMemory> {
+    let _ = println!(rt; "{text}");
+    let mut out = Bytes::new(rt.alloc());
+    say(rt.alloc(), case, text, &mut out)?;
+    tell(rt, &out);
+    Ok(())
+}
+
+// Says each line, and gives the status.
+fn say_lines(rt: &HostRuntime, case: &mut Case) -> u8 {
     for line in rt.lines(rt.alloc()) {
         let Ok(line) = line else {
-            return ExitCode::from(3);
+            return 3;
         };
-        let text = line.as_str();
-        let _ = println!(rt; "{text}");
-        let mut out = Bytes::new(rt.alloc());
-        let Ok(()) = say(rt.alloc(), &mut case, text, &mut out) else {
-            return ExitCode::from(5);
-        };
-        tell(&rt, &out);
+        if say_line(rt, case, line.as_str()).is_err() {
+            return 5;
+        }
     }
-    ExitCode::from(0)
+    0
+}
+
+fn main(rt: HostRuntime) -> ExitCode {
+    match new_case(rt.alloc()) {
+        Ok(mut case) => ExitCode::from(say_lines(&rt, &mut case)),
+        Err(_) => ExitCode::from(5),
+    }
 }

@@ -66,16 +66,22 @@ fn opened(alloc: Global, limits: Limits, fails: u32) -> Option<DiskStore<MemoryD
     Some(DiskStore::new(disk, held))
 }
 
+// So many calls are made before the sessions'.
+fn calls_before(alloc: Global, limits: Limits) -> Option<u32> {
+    let store = opened(alloc, limits, 0)?;
+    u32::try_from(store.disk().moment().number).ok()
+}
+
 fn store_on_disk(alloc: Global, plan: DiskPlan) -> Option<DiskStore<MemoryDisk>>
     ensures { IfSome result (λ store. (s : ℕ) → (⟦<DiskStore<MemoryDisk> as LineStore>⟧.sight store).stand s ≡ outside) }
 {
-    let store = opened(alloc, plan.limits, 0)?;
-    let Some(fails) = plan.fails else {
-        return Some(store);
-    };
-    // So many calls are made before the sessions'.
-    let before = u32::try_from(store.disk().moment().number).ok()?;
-    opened(alloc, plan.limits, before.saturating_add(fails))
+    match plan.fails {
+        None => opened(alloc, plan.limits, 0),
+        Some(fails) => {
+            let before = calls_before(alloc, plan.limits)?;
+            opened(alloc, plan.limits, before.saturating_add(fails))
+        }
+    }
 }
 
 /// Drives them over the store of a new database on a disk in memory.

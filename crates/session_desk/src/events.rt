@@ -79,58 +79,73 @@ fn put_said(s: Session, keys: &[Dbkey], reply: &Reply, out: &mut Bytes) -> Resul
     out.push(b'\n')
 }
 
+fn put_word(s: Session, word: &[u8], out: &mut Bytes) -> Result<(), NoMemory> {
+    put_session(s, out)?;
+    out.extend(word)
+}
+
+fn put_lock(node: Node, mode: Mode, out: &mut Bytes) -> Result<(), NoMemory> {
+    put_node(node, out)?;
+    put_mode(mode, out)
+}
+
+fn put_wanted(
+    s: Session,
+    node: Node,
+    mode: Mode,
+    asked: Node,
+    out: &mut Bytes,
+) -> Result<(), NoMemory> {
+    put_word(s, b"wanted ", out)?;
+    put_lock(node, mode, out)?;
+    out.extend(b" at ")?;
+    put_node(asked, out)
+}
+
+fn put_got(s: Session, node: Node, mode: Mode, out: &mut Bytes) -> Result<(), NoMemory> {
+    put_word(s, b"got ", out)?;
+    put_lock(node, mode, out)
+}
+
+fn put_demoted(
+    s: Session,
+    node: Node,
+    from: Mode,
+    to: Mode,
+    out: &mut Bytes,
+) -> Result<(), NoMemory> {
+    put_word(s, b"demoted ", out)?;
+    put_lock(node, from, out)?;
+    out.extend(b" to")?;
+    put_mode(to, out)
+}
+
+fn put_began(s: Session, kind: &Standing, out: &mut Bytes) -> Result<(), NoMemory> {
+    put_word(s, b"began ", out)?;
+    put_kind(kind, out)
+}
+
+fn put_recovered(s: Session, is_committed: bool, out: &mut Bytes) -> Result<(), NoMemory> {
+    if is_committed {
+        put_word(s, b"recovered, committed", out)
+    } else {
+        put_word(s, b"recovered, undone", out)
+    }
+}
+
 /// Adds the line of an event.
 pub fn put_event(event: &Event, out: &mut Bytes) -> Result<(), NoMemory> {
     out.extend(b"  ")?;
     match event {
-        Event::Began(s, kind) => {
-            put_session(*s, out)?;
-            out.extend(b"began ")?;
-            put_kind(kind, out)?;
-        }
-        Event::Wanted(s, node, mode, asked) => {
-            put_session(*s, out)?;
-            out.extend(b"wanted ")?;
-            put_node(*node, out)?;
-            put_mode(*mode, out)?;
-            out.extend(b" at ")?;
-            put_node(*asked, out)?;
-        }
-        Event::Got(s, node, mode) => {
-            put_session(*s, out)?;
-            out.extend(b"got ")?;
-            put_node(*node, out)?;
-            put_mode(*mode, out)?;
-        }
-        Event::Demoted(s, node, from, to) => {
-            put_session(*s, out)?;
-            out.extend(b"demoted ")?;
-            put_node(*node, out)?;
-            put_mode(*from, out)?;
-            out.extend(b" to")?;
-            put_mode(*to, out)?;
-        }
+        Event::Began(s, kind) => put_began(*s, kind, out)?,
+        Event::Wanted(s, node, mode, asked) => put_wanted(*s, *node, *mode, *asked, out)?,
+        Event::Got(s, node, mode) => put_got(*s, *node, *mode, out)?,
+        Event::Demoted(s, node, from, to) => put_demoted(*s, *node, *from, *to, out)?,
         Event::Said(s, _, keys, reply) => return put_said(*s, keys.as_slice(), reply, out),
-        Event::Committed(s, _) => {
-            put_session(*s, out)?;
-            out.extend(b"committed")?;
-        }
-        Event::RolledBack(s) => {
-            put_session(*s, out)?;
-            out.extend(b"rolled back")?;
-        }
-        Event::Died(s, _) => {
-            put_session(*s, out)?;
-            out.extend(b"died")?;
-        }
-        Event::Recovered(s, is_committed, _) => {
-            put_session(*s, out)?;
-            if *is_committed {
-                out.extend(b"recovered, committed")?;
-            } else {
-                out.extend(b"recovered, undone")?;
-            }
-        }
+        Event::Committed(s, _) => put_word(*s, b"committed", out)?,
+        Event::RolledBack(s) => put_word(*s, b"rolled back", out)?,
+        Event::Died(s, _) => put_word(*s, b"died", out)?,
+        Event::Recovered(s, is_committed, _) => put_recovered(*s, *is_committed, out)?,
     }
     out.push(b'\n')
 }

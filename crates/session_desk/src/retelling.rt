@@ -4,7 +4,7 @@ use crate::events::put_number;
 use ordered_entries::Entries;
 use rdb_account::{Event, render};
 use rdb_meaning::Tables;
-use rdb_tables::does;
+use rdb_tables::{Told, does};
 use rdb_types::{Bytes, Copied, NoMemory, Session, Word};
 use rdo_ast::reply::{Reply, Standing};
 use std::alloc::Global;
@@ -13,22 +13,57 @@ use std::alloc::Global;
 const NUMBERED: usize = 17;
 
 /// Where a transaction began; of one that only reads also the tables of its start.
-#[derive(Drop)]
-enum Start {
-    Writing(usize),
-    Reading(usize, Tables),
+struct Start {
+    from: usize,
+    tables: Option<Tables>,
+}
+
+// By hand, and so those below, so that it is one call wherever one is let go.
+impl Drop for Start {
+    fn drop(self) {
+        let Start {
+            from: _,
+            tables: _tables,
+        } = self;
+    }
+}
+
+/// What an item means there.
+struct Answer {
+    told: Told,
+}
+
+impl Drop for Answer {
+    fn drop(self) {
+        let Answer { told: _told } = self;
+    }
 }
 
 /// The account as it is told again.
-#[derive(Drop)]
 struct Telling<'a> {
     alloc: Global,
     word: Word,
     events: &'a [Event],
     committed: Tables,
     starts: Vec<Option<Start>>,
+    /// The standing of the transaction that is told again.
+    standing: Standing,
     /// So many replies were compared.
     count: u32,
+}
+
+impl Drop for Telling<'_> {
+    fn drop(self) {
+        let Telling {
+            alloc: _,
+            word: _word,
+            events: _,
+            committed: _committed,
+            starts: _starts,
+            standing: _standing,
+            count: _,
+        } = self;
+    }
 }
 
 // Whether a reply stands in place of what an item means, for a lock, a limit or memory.
@@ -45,6 +80,24 @@ fn is_for_a_cause(reply: &Reply) -> bool {
     )
 }
 
+fn text_of(alloc: Global, reply: &Reply) -> Result<Bytes, NoMemory> {
+    let mut text = Bytes::new(alloc);
+    render(reply, &mut text)?;
+    Ok(text)
+}
+
+fn put_other(s: Session, said: &[u8], meant: &[u8], out: &mut Bytes) -> Result<(), NoMemory> {
+    if said == meant {
+        return Ok(());
+    }
+    out.extend(b"  SAID TO ")?;
+    put_number(s.number, out)?;
+    out.extend(b"\n")?;
+    out.extend(said)?;
+    out.extend(b"  IN PLACE OF\n")?;
+    out.extend(meant)
+}
+
 // Tells of a reply that isn't the one that an item means.
 fn compare(
     alloc: Global,
@@ -53,19 +106,9 @@ fn compare(
     meant: &Reply,
     out: &mut Bytes,
 ) -> Result<(), NoMemory> {
-    let mut left = Bytes::new(alloc);
-    let mut right = Bytes::new(alloc);
-    render(said, &mut left)?;
-    render(meant, &mut right)?;
-    if left.as_slice() == right.as_slice() {
-        return Ok(());
-    }
-    out.extend(b"  SAID TO ")?;
-    put_number(s.number, out)?;
-    out.extend(b"\n")?;
-    out.extend(left.as_slice())?;
-    out.extend(b"  IN PLACE OF\n")?;
-    out.extend(right.as_slice())
+    let said = text_of(alloc, said)?;
+    let meant = text_of(alloc, meant)?;
+    put_other(s, said.as_slice(), meant.as_slice(), out)
 }
 
 // The tables of an empty database.
@@ -77,33 +120,51 @@ fn no_tables(alloc: Global) -> Tables {
     }
 }
 
+fn no_starts(alloc: Global) -> Result<Vec<Option<Start>>, NoMemory> {
+    let mut starts = Vec::new(alloc);
+    for _ in 0..NUMBERED {
+        starts.push(None)?;
+    }
+    Ok(starts)
+}
+
 impl<'a> Telling<'a> {
-    // One event of a transaction told again over its tables, in this standing. The standing behind it.
+    fn new(alloc: Global, events: &'a [Event]) -> Result<Telling<'a>, NoMemory> {
+        let starts = no_starts(alloc)?;
+        let word = Word::from_slice(alloc, b"PERS")?;
+        Ok(Telling {
+            alloc,
+            word,
+            events,
+            committed: no_tables(alloc),
+            starts,
+            standing: Standing::Closed,
+            count: 0,
+        })
+    }
+
+    // One event of a transaction told again over its tables.
     fn tell_event(
         &mut self,
         tables: &mut Tables,
-        standing: Standing,
         s: Session,
         event: &Event,
         out: &mut Bytes,
-    ) -> Result<Standing, NoMemory> {
+    ) -> Result<(), NoMemory> {
         let Event::Said(of, item, keys, reply) = event else {
-            return Ok(standing);
+            return Ok(());
         };
         if *of != s || is_for_a_cause(reply) {
-            return Ok(standing);
+            return Ok(());
         }
-        let told = does(
-            tables,
-            self.alloc,
-            &self.word,
-            &standing,
-            item,
-            keys.as_slice(),
-        )?;
-        compare(self.alloc, s, reply, &told.reply, out)?;
+        let keys = keys.as_slice();
+        let mut answer = Answer {
+            told: does(tables, self.alloc, &self.word, &self.standing, item, keys)?,
+        };
+        compare(self.alloc, s, reply, &answer.told.reply, out)?;
         self.count = self.count.saturating_add(1);
-        Ok(told.standing)
+        std::mem::swap(&mut answer.told.standing, &mut self.standing);
+        Ok(())
     }
 
     // A transaction told again over these tables: the events between two places.
@@ -115,31 +176,29 @@ impl<'a> Telling<'a> {
         to: usize,
         out: &mut Bytes,
     ) -> Result<(), NoMemory> {
+        self.standing = Standing::Closed;
         let Some(events) = self.events.get(from..to) else {
             return Ok(());
         };
-        let mut standing = Standing::Closed;
         for event in events {
-            standing = self.tell_event(tables, standing, s, event, out)?;
+            self.tell_event(tables, s, event, out)?;
         }
         Ok(())
     }
 
-    fn put_start(&mut self, s: Session, start: Start) {
-        match self.starts.get_mut(s.number as usize) {
-            Some(place) => *place = Some(start),
-            None => drop(start),
+    fn put_start(&mut self, s: Session, from: usize, tables: Option<Tables>) {
+        let start = Start { from, tables };
+        if let Some(place) = self.starts.get_mut(s.number as usize) {
+            *place = Some(start);
         }
     }
 
     fn begin(&mut self, s: Session, place: usize, kind: &Standing) -> Result<(), NoMemory> {
-        match kind {
-            Standing::ReadOnly => {
-                let tables = self.committed.copied(self.alloc)?;
-                self.put_start(s, Start::Reading(place, tables));
-            }
-            _ => self.put_start(s, Start::Writing(place)),
-        }
+        let tables = match kind {
+            Standing::ReadOnly => Some(self.committed.copied(self.alloc)?),
+            _ => None,
+        };
+        self.put_start(s, place, tables);
         Ok(())
     }
 
@@ -160,24 +219,11 @@ impl<'a> Telling<'a> {
         out: &mut Bytes,
     ) -> Result<(), NoMemory> {
         let mut tables = self.committed.copied(self.alloc)?;
-        if !is_kept {
-            return self.tell(&mut tables, s, from, to, out);
+        let told = self.tell(&mut tables, s, from, to, out);
+        if is_kept {
+            std::mem::swap(&mut tables, &mut self.committed);
         }
-        self.tell(&mut tables, s, from, to, out)?;
-        self.committed = tables;
-        Ok(())
-    }
-
-    fn tell_reader(
-        &mut self,
-        tables: Tables,
-        s: Session,
-        from: usize,
-        to: usize,
-        out: &mut Bytes,
-    ) -> Result<(), NoMemory> {
-        let mut tables = tables;
-        self.tell(&mut tables, s, from, to, out)
+        told
     }
 
     // The transaction that ends at a place is told again.
@@ -188,10 +234,13 @@ impl<'a> Telling<'a> {
         is_kept: bool,
         out: &mut Bytes,
     ) -> Result<(), NoMemory> {
-        match self.take_start(s) {
-            None => Ok(()),
-            Some(Start::Writing(from)) => self.tell_writer(s, from, place, is_kept, out),
-            Some(Start::Reading(from, tables)) => self.tell_reader(tables, s, from, place, out),
+        let Some(mut start) = self.take_start(s) else {
+            return Ok(());
+        };
+        let from = start.from;
+        match &mut start.tables {
+            None => self.tell_writer(s, from, place, is_kept, out),
+            Some(tables) => self.tell(tables, s, from, place, out),
         }
     }
 
@@ -208,18 +257,7 @@ impl<'a> Telling<'a> {
 
 /// Tells of each reply that isn't what its item means there, and answers how many were compared. It begins with no tables.
 pub fn retell(alloc: Global, events: &[Event], out: &mut Bytes) -> Result<u32, NoMemory> {
-    let mut starts = Vec::new(alloc);
-    for _ in 0..NUMBERED {
-        starts.push(None)?;
-    }
-    let mut telling = Telling {
-        alloc,
-        word: Word::from_slice(alloc, b"PERS")?,
-        events,
-        committed: no_tables(alloc),
-        starts,
-        count: 0,
-    };
+    let mut telling = Telling::new(alloc, events)?;
     for (place, event) in events.iter().enumerate() {
         telling.follow(place, event, out)?;
     }

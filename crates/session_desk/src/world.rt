@@ -52,9 +52,15 @@ fn is_answered(events: &[Event], from: usize, s: Session) -> bool {
 }
 
 /// The sessions of a case.
-#[derive(Drop)]
 pub struct World<O: Origin + Naming, S: Reserves + Reaches, L: LineStore + Drop> {
     cluster: LineCluster<O, S, L>,
+}
+
+// By hand, so that it is one call wherever they are let go.
+impl<O: Origin + Naming, S: Reserves + Reaches, L: LineStore + Drop> Drop for World<O, S, L> {
+    fn drop(self) {
+        let World { cluster: _cluster } = self;
+    }
 }
 
 impl<O: Origin + Naming, S: Reserves + Reaches, L: LineStore + Drop> World<O, S, L> {

@@ -19,24 +19,33 @@ fn new_desk(alloc: Global) -> Result<Desk<MemoryStore>, NoMemory> {
     Ok(Desk::new(store))
 }
 
-fn main(rt: HostRuntime) -> ExitCode {
-    let Ok(mut desk) = new_desk(rt.alloc()) else {
-        return ExitCode::from(1);
-    };
+// Echoes a line, and does what it says.
+fn say_line(rt: &HostRuntime, desk: &mut Desk<MemoryStore>, text: &str) -> Result<(), NoMemory> {
+    let _ = println!(rt; "{text}");
+    if text.starts_with("-") {
+        *desk = new_desk(rt.alloc())?;
+    } else if !text.starts_with("!") {
+        say(rt, desk, text);
+    }
+    Ok(())
+}
+
+// Says each line, and gives the status.
+fn say_lines(rt: &HostRuntime, desk: &mut Desk<MemoryStore>) -> u8 {
     for line in rt.lines(rt.alloc()) {
         let Ok(line) = line else {
-            return ExitCode::from(3);
+            return 3;
         };
-        let text = line.as_str();
-        let _ = println!(rt; "{text}");
-        if text.starts_with("-") {
-            let Ok(empty) = new_desk(rt.alloc()) else {
-                return ExitCode::from(1);
-            };
-            desk = empty;
-        } else if !text.starts_with("!") {
-            say(&rt, &mut desk, text);
+        if say_line(rt, desk, line.as_str()).is_err() {
+            return 1;
         }
     }
-    ExitCode::from(0)
+    0
+}
+
+fn main(rt: HostRuntime) -> ExitCode {
+    match new_desk(rt.alloc()) {
+        Ok(mut desk) => ExitCode::from(say_lines(&rt, &mut desk)),
+        Err(_) => ExitCode::from(1),
+    }
 }

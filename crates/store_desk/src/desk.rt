@@ -11,12 +11,21 @@ use line_view::{Known, Write};
 use rdb_types::{Dbkey, Session};
 
 /// A store, of whose sessions it is known where they stand: so no call is made that isn't allowed there.
-#[derive(Drop)]
 pub struct Desk<L: LineStore + Drop> {
     store: L,
     /// Places are numbered as the sessions are, from 1 to 16.
     places: [Place; 17],
     ghost fits: { Fits (L.sight store) places },
+}
+
+// By hand, so that it is one call wherever a desk is let go.
+impl<L: LineStore + Drop> Drop for Desk<L> {
+    fn drop(self) {
+        let Desk {
+            store: _store,
+            places: _,
+        } = self;
+    }
 }
 
 impl<L: LineStore + Drop> Desk<L> {

@@ -66,7 +66,7 @@ module _ (v : View) (held : StoreMemory) (s : ℕ) (m : Member) (was : slice_get
         let n : Member = record m { stage = stage.Dead false recovery.Ending; written = w } in
         let rests-now : (g : Ledger) → StageStands m.stage v g s m → g.standing s ≡ resting = λ g stands. rests g (subst (λ x. StageStands x v g s m) at stands) in
         stood n (does-apart v v held (record (with_member s n held) { numbers = held.numbers }) s m n was (becomes-member held held.numbers s n) (λ e. cc) refl (none-leaves v)
-        (λ h shown stands. same-ledger v v (passes-none v) held s n h shown shown.numbers.ceiling (kept-stays held.members s held.numbers.next held.numbers.written m n was (omega arith) shown.kept) shown.facts (rests-now shown.ledger stands) tt)
+        (λ h shown stands. same-ledger v v (passes-none v) held s n h shown (λ t apart. refl) shown.numbers.ceiling (kept-stays held.members s held.numbers.next held.numbers.written m n was (omega arith) shown.kept) shown.facts (rests-now shown.ledger stands) tt)
         (omega arith) (omega arith) (died (seat_with m.stage [] [])) (Dies s) (arrives-at false arrives)
         (λ h shown stands c is. not_resting v shown.ledger s shown.facts (rests-now shown.ledger stands) c is) (λ h shown stands. record { lines = refl; commit = refl }) space-same
         (λ h g start related moves. dies-from h g start false (writes_in w.lines) related.seat (dies-at false (writes_in w.lines) dies start) moves))
@@ -90,7 +90,7 @@ module _ (v : View) (held : StoreMemory) (s : ℕ) (m : Member) (was : slice_get
     judged flown =
         let n : Member = at_stage (stage.Dead true recovery.Judging) m in
         stood n (does-flying v v held (record (with_member s n held) { numbers = held.numbers }) s m n was (becomes-member held held.numbers s n) (λ e. cc) refl (none-leaves v)
-        (λ h shown stands. same-ledger v v (passes-none v) held s n h shown shown.numbers.ceiling (kept-stays held.members s held.numbers.next held.numbers.written m n was (omega arith) shown.kept) shown.facts
+        (λ h shown stands. same-ledger v v (passes-none v) held s n h shown (λ t apart. refl) shown.numbers.ceiling (kept-stays held.members s held.numbers.next held.numbers.written m n was (omega arith) shown.kept) shown.facts
         (let is = turned shown.ledger stands in record { at = at-turn; commit = record { plan = is.plan; its = is.its; number = is.number; lines = is.lines; long = is.long; count = is.count; keys = is.keys; under_way = is.under_way }; flying = flown }) tt)
         (omega arith) (omega arith) (died (seat_with m.stage [] [])) (Dies s) (arrives-at (stage.Committing (Going at-turn)) at true refl)
         (λ start. sym (ap (λ x. in_flight (seat_with x ws start)) at)) (λ h shown stands. record { lines = refl; commit = refl }) space-same
@@ -136,7 +136,7 @@ module _ (v : View) (held : StoreMemory) (s : ℕ) (m : Member) (was : slice_get
           facts = given_facts v g c shown.facts is.under_way grounded;
           limits = refl;
           none = λ t apart rests. beside-it t apart ∙ rests;
-          others = λ t x apart got stood. stays-with v v g after t (λ file page is. refl) (λ classes was. was) (stays t apart) x stood;
+          others = λ t x apart got stood. stays-with v v g after t (λ file page is. refl) (λ classes was. was) (stays t apart) x refl stood;
           mine = record { transaction = c.transaction; all = is.plan.all; stands = own; is_open = ap (λ k. g.base.going k) (sym is.its) ∙ old.is.is_open; number = sym is.number; count = is.count; keys = is.keys };
           numbered = record { number = shown.numbers.number; first = shown.numbers.first; ceiling = shown.numbers.ceiling; group = shown.numbers.group };
           kept = kept-stays held.members s held.numbers.next held.numbers.written m n was (omega arith) shown.kept;
@@ -147,6 +147,7 @@ module _ (v : View) (held : StoreMemory) (s : ℕ) (m : Member) (was : slice_get
               (keeps_others c.member (undoing is.plan.all (length is.plan.all)) g.standing (λ bad. bad)) (λ d bad. absurd (no_commit d bad)) (λ d bad flown. absurd (no_commit d bad)) shown.versions.readers;
           slots = shown.versions.slots;
           used = shown.versions.used;
+          unused = shown.versions.unused;
           waits = tt;
           waits_beside = λ t apart. refl;
           reads = λ t. refl;
@@ -194,7 +195,7 @@ module _ (v : View) (held : StoreMemory) (s : ℕ) (m : Member) (was : slice_get
     stays-by stage.Outside at has alive = absurd (cc)
     stays-by (stage.Beginning ceiling) at has alive = absurd (cc)
     stays-by stage.Writing at has alive = end-at stage.Writing at left false (λ g has. may-end-begun g s m has.begun) refl (λ start. refl)
-    stays-by stage.Changing at has alive = end-at stage.Changing at left false (λ g has. may-end-begun g s m has) refl (λ start. refl)
+    stays-by stage.Changing at has alive = end-at stage.Changing at left false (λ g has. may-end-begun g s m has.begun) refl (λ start. refl)
     stays-by stage.Broken at has alive = end-at stage.Broken at left false (λ g has. has.may_end) refl (λ start. refl)
     stays-by stage.Prepared at has alive = end-at stage.Prepared at left false (λ g has. may-end-begun g s m has.begun) refl (λ start. refl)
     stays-by (stage.Committing turn) at has alive = commits-by turn at

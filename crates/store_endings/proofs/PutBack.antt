@@ -36,7 +36,7 @@ use Rattle.disk_store.proofs.Moving.{itself}
 use Rattle.disk_store.proofs.Kept.{kept-stays}
 use Rattle.disk_store.proofs.Beside.{SameSpaces, StaysWith, stays-with}
 use Rattle.disk_store.proofs.Stepping.{ComesTo, does-apart, becomes-member, space-same}
-use Rattle.disk_store.proofs.Passing.{passes-none, none-leaves, same-ledger, aside-ceiling, slots-stay}
+use Rattle.disk_store.proofs.Passing.{header-beside, passes-none, none-leaves, same-ledger, aside-ceiling, slots-stay}
 
 -- a recovery with so many before-images left
 pub undone-with : (g : Ledger) (s : ℕ) (m : Member) (rest : ℕ) → IsUndone g s m rest → RecoveryStands (undoing_with rest) g s m
@@ -126,7 +126,7 @@ module _ (v w : View) (held : StoreMemory) (s : ℕ) (m : Member) (commits : Boo
       facts = puts.facts;
       limits = refl;
       none = λ t apart rests. ap (λ b. if b then undoing u.all rest else g.standing t) apart ∙ rests;
-      others = λ t x apart got stood. stays-with v w g after t (spaces shown.tells) (λ its lie. classes shown.tells g shown.facts its lie) (stays t apart) x stood;
+      others = λ t x apart got stood. stays-with v w g after t (spaces shown.tells) (λ its lie. classes shown.tells g shown.facts its lie) (stays t apart) x (header-beside v w (area_file file) slot shown.tells (λ e. cc) only t) stood;
       mine = reached after mine;
       numbered = record { number = shown.numbers.number; first = shown.numbers.first; ceiling = aside-ceiling v w shown.tells (area_file file) slot (λ e. cc) only held.numbers shown.numbers.ceiling; group = shown.numbers.group };
       kept = kept-stays held.members s held.numbers.next held.numbers.written m n was (omega arith) shown.kept;
@@ -139,6 +139,7 @@ module _ (v w : View) (held : StoreMemory) (s : ℕ) (m : Member) (commits : Boo
       waits_beside = λ t apart. refl;
       reads = λ t. refl;
       used = shown.versions.used;
+      unused = shown.versions.unused;
     }
 
   -- its seat stays
@@ -171,7 +172,7 @@ module _ (v : View) (held : StoreMemory) (s : ℕ) (m : Member) (commits : Bool)
   pub does-none-left : Does s (stand_at held.members s) (λ h g. GoesOn s h g) (sight_of v held) (sight_of v (with_member s restoring held))
   does-none-left = subst (λ x. Does s (stand_of x) (λ h g. GoesOn s h g) (sight_of v held) (sight_of v (with_member s restoring held))) (sym was)
       (does-apart v v held (record (with_member s restoring held) { numbers = held.numbers }) s m restoring was (becomes-member held held.numbers s restoring) (λ e. cc) refl (none-leaves v)
-      (λ h shown stands. same-ledger v v (passes-none v) held s restoring h shown shown.numbers.ceiling (kept-stays held.members s held.numbers.next held.numbers.written m restoring was (omega arith) shown.kept) shown.facts (restores shown.ledger (undone-there shown.ledger stands)) tt)
+      (λ h shown stands. same-ledger v v (passes-none v) held s restoring h shown (λ t apart. refl) shown.numbers.ceiling (kept-stays held.members s held.numbers.next held.numbers.written m restoring was (omega arith) shown.kept) shown.facts (restores shown.ledger (undone-there shown.ledger stands)) tt)
       (omega arith) (omega arith) (stand_of (Some m)) (λ h g. GoesOn s h g) (ap (λ x. bare (seat_with x [] [])) (sym at))
       (λ h shown stands c is. let u = undone-there shown.ledger stands in not_undoing v shown.ledger s shown.facts u.all 0 u.stands c is) (λ h shown stands. record { lines = refl; commit = refl }) space-same
       (λ h g start related moves. record {

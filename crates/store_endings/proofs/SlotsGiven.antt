@@ -182,7 +182,7 @@ module _ (v : View) (held : StoreMemory) (s : ℕ) (m : Member) (was : slice_get
       facts = shown.facts;
       limits = refl;
       none = λ t apart rests. rests;
-      others = λ t x apart got stood. stays-there v v g g t (same-areas v) (record { standing = inl refl; going = refl; commit = refl }) x stood;
+      others = λ t x apart got stood. stays-there v v g g t (same-areas v) (record { standing = inl refl; going = refl; commit = refl }) x refl stood;
       mine = subst (λ x. StageStands x v g s n) (sym at) (subst (λ x. StageStands x v g s m) at stands);
       numbered = record { number = shown.numbers.number; first = shown.numbers.first; ceiling = shown.numbers.ceiling; group = shown.numbers.group };
       kept = kept-stays held.members s held.numbers.next held.numbers.written m n was (omega arith) shown.kept;
@@ -192,6 +192,7 @@ module _ (v : View) (held : StoreMemory) (s : ℕ) (m : Member) (was : slice_get
       readers = slots_given v held.limits.snaps shown.versions.course shown.versions.waiting g shown.versions.readers given (may h shown);
       slots = held-left v (course_given given shown.versions.course).followed held.limits.snaps m.aside mid (holds h shown);
       used = shown.versions.used;
+      unused = shown.versions.unused;
       waits = subst (λ x. WaitsAs x shown.versions.waiting s n) (sym at) tt;
       waits_beside = λ t apart. refl;
       reads = λ t. refl;

@@ -8,8 +8,8 @@ use Rattle.rdb_types.specs.declared.session.Cause.TheVariants.{Device, Gate, Mem
 use Rattle.rdb_account.specs.Places.{Opening}
 use Rattle.rdb_drive.specs.Boards.{MayDie}
 use Rattle.rdb_drive.specs.Orders.{upward}
-use Rattle.line_cluster.specs.Sound.{MayFail}
-use Rattle.line_drive.specs.Boards.{mortals_of}
+use Rattle.line_runs.specs.line_cluster.Sound.{MayFail}
+use Rattle.line_runs.specs.line_drive.Boards.{mortals_of}
 use Rattle.workload_runs.specs.Among.{first_of, may_die_by}
 
 in-none : (s : ℕ) → Contains [] s → ⊥

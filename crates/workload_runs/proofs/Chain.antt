@@ -6,7 +6,7 @@ use Rattle.rdb_account.specs.declared.event.Event.{Event as Declared}
 use Rattle.rdb_account.specs.Events.{Event, event_of}
 use Rattle.rdb_account.specs.Places.{Opening, place}
 use Rattle.session_states.specs.declared.item_queue.WholeScript.{WholeScript}
-use Rattle.line_cluster.specs.Turned.{HaveAllEnded}
+use Rattle.line_runs.specs.line_cluster.Turned.{HaveAllEnded}
 use Rattle.workload_runs.specs.Runs.{Frame, IsRun, AreRuns, EndIf}
 use Rattle.workload_runs.specs.Statuses.{IsWhole}
 

@@ -81,14 +81,14 @@ module _ (M : Model) (limits : Limits) (old made runs last : View) (f : Frame) (
 
 -- ---- what status 4 says of it
 
-last-of-runs : (OfLast : Opening → ℕ → List Event → Type 0) (f : Frame) (t : Tables) (ss : List (List WholeScript)) (es : List (List Declared)) → AreRuns OfLast f t ss es → (es ≡ [] → ⊥)
+pub last-of-runs : (OfLast : Opening → ℕ → List Event → Type 0) (f : Frame) (t : Tables) (ss : List (List WholeScript)) (es : List (List Declared)) → AreRuns OfLast f t ss es → (es ≡ [] → ⊥)
     → (o : Opening) × (n : ℕ) × (events : List Event) × OfLast o n events
 last-of-runs OfLast f t ss [] are some = absurd (some refl)
 last-of-runs OfLast f t [] (e ∷ es) are some = absurd are
 last-of-runs OfLast f t (s ∷ ss) (e ∷ []) are some = (are.0.opening, length s, map event_of e, are.1)
 last-of-runs OfLast f t (s ∷ ss) (e ∷ d ∷ es) are some = last-of-runs OfLast f (place are.0.opening (map event_of e)).tables ss (d ∷ es) are.2 (λ none. some-account d es none)
 
-three-some : (all more : List (List Declared)) → length all ≡ 3 → all ++ more ≡ [] → ⊥
+pub three-some : (all more : List (List Declared)) → length all ≡ 3 → all ++ more ≡ [] → ⊥
 three-some [] more three none = let no : 0 ≡ 3 = three in omega (arith, no)
 three-some (e ∷ es) more three none = some-account e (es ++ more) none
 

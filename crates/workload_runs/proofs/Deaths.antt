@@ -13,7 +13,7 @@ use Rattle.rdb_account.specs.Events.{Event, Began, Wanted, Got, Demoted, Said, C
 use Rattle.rdb_account.specs.Legal.{MayFollow, is_at_end, may_die_of}
 use Rattle.rdb_account.specs.Places.{Opening, Place, after, next_item, place, start}
 use Rattle.session_states.specs.declared.item_queue.WholeScript.{WholeScript}
-use Rattle.line_cluster.specs.Deaths.{RoseBy, device_deaths, is_device_death}
+use Rattle.line_runs.specs.line_cluster.Deaths.{RoseBy, device_deaths, is_device_death}
 use Rattle.line_runs.specs.Openings.{stop_of}
 use Rattle.workload_replies.specs.Replies.{has_death}
 use Rattle.workload_runs.specs.Among.{may_die_by}

@@ -7,7 +7,7 @@ use Rattle.rdb_outside.specs.Disk.{View}
 use Rattle.rdb_meaning.specs.declared.tables.Tables.{Tables}
 use Rattle.rdb_account.specs.declared.event.Event.{Event}
 use Rattle.session_states.specs.declared.item_queue.WholeScript.{WholeScript}
-use Rattle.line_cluster.specs.Deaths.{RoseBy}
+use Rattle.line_runs.specs.line_cluster.Deaths.{RoseBy}
 use Rattle.workload_replies.specs.Replies.{has_death}
 use Rattle.workload_runs.specs.Reports.{Reports}
 use Rattle.workload_runs.specs.Runs.{Frame, AreRuns, EndIf}
@@ -40,17 +40,16 @@ whole-runs status said runs (inr (five, three)) (inl kept) whole = absurd (whole
 whole-runs status said runs seen (inr zero_is) whole = inl zero_is
 
 -- what is left where nothing failed
-pub unharmed : (status : ℕ) → is_workload_status status ≡ true → (status ≡ 3 → ⊥) → (status ≡ 6 → ⊥) → (status ≡ 9 → ⊥) → is_unharmed status ≡ true
-unharmed status is disk sink taken = elim (one-of status is disk sink taken) [
+pub unharmed : (status : ℕ) → is_workload_status status ≡ true → (status ≡ 3 → ⊥) → (status ≡ 6 → ⊥) → (status ≡ 7 → ⊥) → (status ≡ 9 → ⊥) → is_unharmed status ≡ true
+unharmed status is disk sink faults taken = elim (one-of status is disk sink faults taken) [
   | inl it ↦ subst (λ (n : ℕ). is_unharmed n ≡ true) (sym it) refl
   | inr (inl it) ↦ subst (λ (n : ℕ). is_unharmed n ≡ true) (sym it) refl
   | inr (inr (inl it)) ↦ subst (λ (n : ℕ). is_unharmed n ≡ true) (sym it) refl
-  | inr (inr (inr (inl it))) ↦ subst (λ (n : ℕ). is_unharmed n ≡ true) (sym it) refl
-  | inr (inr (inr (inr it))) ↦ subst (λ (n : ℕ). is_unharmed n ≡ true) (sym it) refl
+  | inr (inr (inr it)) ↦ subst (λ (n : ℕ). is_unharmed n ≡ true) (sym it) refl
 ]
   where
-    one-of : (n : ℕ) → is_workload_status n ≡ true → (n ≡ 3 → ⊥) → (n ≡ 6 → ⊥) → (n ≡ 9 → ⊥) → (n ≡ 0) ⊎ (n ≡ 4) ⊎ (n ≡ 5) ⊎ (n ≡ 7) ⊎ (n ≡ 8)
-    one-of n said three six nine = grind (arith, nat_tests)
+    one-of : (n : ℕ) → is_workload_status n ≡ true → (n ≡ 3 → ⊥) → (n ≡ 6 → ⊥) → (n ≡ 7 → ⊥) → (n ≡ 9 → ⊥) → (n ≡ 0) ⊎ (n ≡ 4) ⊎ (n ≡ 5) ⊎ (n ≡ 8)
+    one-of n said three six seven nine = grind (arith, nat_tests)
 
 -- the status that is told is one of those of a workload
 pub seen-status : (status said : ℕ) → Seen status said → is_workload_status said ≡ true → is_workload_status status ≡ true
@@ -69,9 +68,17 @@ unmade-not-six status said seen which six = grind arith
 pub runs-not-nine : (runs : ℕ) → is_run_status runs ≡ true → runs ≡ 9 → ⊥
 runs-not-nine runs is nine = grind (arith, nat_tests)
 
+-- nor as where faults were listed
+pub runs-not-seven : (runs : ℕ) → is_run_status runs ≡ true → runs ≡ 7 → ⊥
+runs-not-seven runs is seven = grind (arith, nat_tests)
+
 -- nobody died where no database was made
 pub unmade-not-eight : (status said : ℕ) → Seen status said → (said ≡ 3) ⊎ (said ≡ 9) → status ≡ 8 → ⊥
 unmade-not-eight status said seen which eight = grind arith
+
+-- nothing was verified where no database was made
+pub unmade-not-seven : (status said : ℕ) → Seen status said → (said ≡ 3) ⊎ (said ≡ 9) → status ≡ 7 → ⊥
+unmade-not-seven status said seen which seven = grind arith
 
 -- nothing is refused where no database was made
 pub unmade-not-four : (status said : ℕ) → Seen status said → (said ≡ 3) ⊎ (said ≡ 9) → status ≡ 4 → ⊥

@@ -20,7 +20,7 @@ use Rattle.session_jobs.specs.Records.{Model}
 use Rattle.session_states.specs.declared.item_queue.WholeScript.{WholeScript}
 use Rattle.line_steps.specs.Images.{IsLeft, IsNow}
 use Rattle.line_opening.specs.declared.fault.OpeningFault.{OpeningFault}
-use Rattle.line_cluster.specs.Turned.{HaveAllEnded}
+use Rattle.line_runs.specs.line_cluster.Turned.{HaveAllEnded}
 use Rattle.line_runs.specs.Prefix.{GaveUp, HoldsAll, HoldsPrefix, IsPrefix, StandsFor}
 use Rattle.workload_runs.specs.Left.{EndsHeld, LastHolds, StandSince}
 use Rattle.workload_runs.specs.Runs.{Frame, IsRun, AreRuns}

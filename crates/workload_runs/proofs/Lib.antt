@@ -3,6 +3,7 @@ mod Chain
 pub mod Crash
 mod Deaths
 mod Ended
+pub mod Faultless
 mod Left
 mod Numbers
 pub mod Opening

@@ -5,7 +5,7 @@ use Rattle.stable_lines.specs.Journal.{Journal, next_number}
 use Rattle.journal_anew.specs.Anew.{no_groups}
 use Rattle.line_opening.specs.Passing.{IsNext}
 use Rattle.line_opening.specs.declared.groups.NextGroup.{NextGroup}
-use Rattle.opened_store.specs.Opened.{AreUsedUp, LacksNumbers}
+use Rattle.line_runs.specs.opened_store.Opened.{AreUsedUp, LacksNumbers}
 use Rattle.workload_runs.specs.Numbers.{Wanted}
 
 by-state : (anew : Bool) (root : Root) (journal : Journal) (next : NextGroup) → IsNext journal next

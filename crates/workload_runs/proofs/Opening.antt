@@ -20,7 +20,7 @@ use Rattle.stable_lines.specs.Kept.{Kept}
 use Rattle.line_moves.specs.Classes.{IsClassed}
 use Rattle.page_faults.proofs.Reading.{image_same, told_on}
 use Rattle.store_shows.specs.Shows.{OpensTo}
-use Rattle.opened_store.specs.Opened.{is_taken_in}
+use Rattle.line_runs.specs.opened_store.Opened.{is_taken_in}
 use Rattle.rdb_account.specs.Places.{Opening}
 use Rattle.session_jobs.specs.Records.{Model}
 use Rattle.session_states.specs.declared.item_queue.WholeScript.{WholeScript}

@@ -6,9 +6,9 @@ use Rattle.rdb_account.specs.Events.{event_of}
 use Rattle.rdb_account.specs.Legal.{IsLegal}
 use Rattle.rdb_account.specs.Places.{Opening, place}
 use Rattle.session_states.specs.declared.item_queue.WholeScript.{WholeScript}
-use Rattle.line_cluster.specs.Deaths.{RoseBy}
-use Rattle.line_cluster.specs.Sound.{FollowsScripts}
-use Rattle.line_cluster.specs.Turned.{HaveAllEnded}
+use Rattle.line_runs.specs.line_cluster.Deaths.{RoseBy}
+use Rattle.line_runs.specs.line_cluster.Sound.{FollowsScripts}
+use Rattle.line_runs.specs.line_cluster.Turned.{HaveAllEnded}
 use Rattle.line_runs.specs.Openings.{stop_of}
 use Rattle.workload_replies.specs.Replies.{has_death}
 use Rattle.workload_runs.specs.Runs.{Frame, IsRun, AreRuns, EndIf}

@@ -11,14 +11,14 @@ use Rattle.line_view.specs.Knowledge.{Lines}
 use Rattle.stable_lines.specs.Journal.{Journal, IsJournalOf}
 use Rattle.stable_lines.specs.Kept.{Kept}
 use Rattle.store_shows.specs.Shows.{OpensTo}
-use Rattle.opened_store.specs.Opened.{AreUsedUp}
+use Rattle.line_runs.specs.opened_store.Opened.{AreUsedUp}
 use Rattle.page_faults.proofs.Reading.{image_same, told_on}
 use Rattle.line_opening.specs.declared.fault.OpeningFault.{OpeningFault}
 use Rattle.line_opening.specs.declared.fault.OpeningFault.TheVariants as opening
 use Rattle.line_store.specs.declared.answers.Fault.TheVariants as faulty
-use Rattle.line_cluster.specs.declared.sessions.Halt.{Halt}
-use Rattle.line_cluster.specs.declared.sessions.Halt.TheVariants as halts
-use Rattle.line_cluster.specs.Sound.{is_over_slot, is_unsound}
+use Rattle.line_runs.specs.line_cluster.declared.sessions.Halt.{Halt}
+use Rattle.line_runs.specs.line_cluster.declared.sessions.Halt.TheVariants as halts
+use Rattle.line_runs.specs.line_cluster.Sound.{is_over_slot, is_unsound}
 use Rattle.line_runs.specs.Openings.{HasNoNumbers, HasSpent}
 use Rattle.rmu_commands.specs.Usable.{IsUsable, status_at}
 use Rattle.workload_runs.specs.Statuses.{IsBadOpening, IsOverLine, IsOverSlot, stopped_status}

@@ -10,9 +10,9 @@ use Rattle.rdb_account.specs.Events.{Event, event_of}
 use Rattle.line_opening.specs.declared.fault.OpeningFault.{OpeningFault}
 use Rattle.line_opening.specs.declared.fault.OpeningFault.TheVariants as opening
 use Rattle.line_store.specs.declared.answers.Fault.TheVariants as faulty
-use Rattle.line_cluster.specs.declared.sessions.Halt.{Halt}
-use Rattle.line_cluster.specs.declared.sessions.Halt.TheVariants as halts
-use Rattle.line_cluster.specs.Deaths.{RoseBy, device_deaths, failures}
+use Rattle.line_runs.specs.line_cluster.declared.sessions.Halt.{Halt}
+use Rattle.line_runs.specs.line_cluster.declared.sessions.Halt.TheVariants as halts
+use Rattle.line_runs.specs.line_cluster.Deaths.{RoseBy, device_deaths, failures}
 use Rattle.workload_replies.specs.Replies.{has_death}
 use Rattle.workload_runs.specs.Statuses.{deaths_of_last, have_death, is_run_status, last_of}
 use Rattle.workload_runs.proofs.Chain.{InFront}

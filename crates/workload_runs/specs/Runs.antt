@@ -8,10 +8,10 @@ use Rattle.rdb_account.specs.Events.{Event, event_of}
 use Rattle.rdb_account.specs.Legal.{IsLegal}
 use Rattle.rdb_account.specs.Places.{Opening, place}
 use Rattle.session_states.specs.declared.item_queue.WholeScript.{WholeScript}
-use Rattle.line_cluster.specs.Sound.{FollowsScripts}
-use Rattle.line_cluster.specs.Turned.{HaveAllEnded}
+use Rattle.line_runs.specs.line_cluster.Sound.{FollowsScripts}
+use Rattle.line_runs.specs.line_cluster.Turned.{HaveAllEnded}
 use Rattle.line_runs.specs.Openings.{stop_of}
-use Rattle.opened_store.specs.Opened.{is_taken_in}
+use Rattle.line_runs.specs.opened_store.Opened.{is_taken_in}
 use Rattle.workload_runs.specs.declared.stand.Stand.{Stand}
 
 -- ---- one run

@@ -8,9 +8,9 @@ use Rattle.rdb_account.specs.Events.{event_of}
 use Rattle.line_opening.specs.declared.fault.OpeningFault.{OpeningFault}
 use Rattle.line_opening.specs.declared.fault.OpeningFault.TheVariants as opening
 use Rattle.line_store.specs.declared.answers.Fault.TheVariants as faulty
-use Rattle.line_cluster.specs.declared.sessions.Halt.{Halt}
-use Rattle.line_cluster.specs.declared.sessions.Halt.TheVariants as halts
-use Rattle.line_cluster.specs.Deaths.{device_deaths}
+use Rattle.line_runs.specs.line_cluster.declared.sessions.Halt.{Halt}
+use Rattle.line_runs.specs.line_cluster.declared.sessions.Halt.TheVariants as halts
+use Rattle.line_runs.specs.line_cluster.Deaths.{device_deaths}
 use Rattle.workload_replies.specs.Replies.{has_death}
 
 abbrev pub is_run_status : ℕ → Bool
@@ -21,7 +21,7 @@ is_workload_status n = list_any (nat_eq n) (0 ∷ 3 ∷ 4 ∷ 5 ∷ 6 ∷ 7 ∷ 
 
 -- those with which one ends over a disk and a sink that don't fail, where there was no database
 abbrev pub is_unharmed : ℕ → Bool
-is_unharmed n = list_any (nat_eq n) (0 ∷ 4 ∷ 5 ∷ 7 ∷ 8 ∷ [])
+is_unharmed n = list_any (nat_eq n) (0 ∷ 4 ∷ 5 ∷ 8 ∷ [])
 
 -- the statuses at which every session of the last run that lived came to its end
 abbrev pub IsWhole : ℕ → Type 0

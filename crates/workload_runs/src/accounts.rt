@@ -1,7 +1,7 @@
 // Accounts of runs, one behind another.
 ghost use Rattle.std.specs.Prelude.{◌≡◌, ◌∷◌, ◌⊎◌, [], None};
 
-use line_cluster::Halt;
+use line_runs::Halt;
 use rdb_account::Events;
 use rdb_types::Items;
 use std::alloc::Global;

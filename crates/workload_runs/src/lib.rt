@@ -13,6 +13,9 @@ mod stand;
 mod stopping;
 mod whole;
 
+pub use line_runs::{
+    Halt, LineRun, Origin, ReservingStatements, Said, say_in_order, say_in_threads,
+};
 pub use preparing::Part;
 pub use saying::status_of_fault;
 pub use stopping::{seen, status_of_halt};

@@ -6,7 +6,7 @@ ghost use Rattle.root_file.specs.declared.Root.{Root};
 ghost use Rattle.root_file.specs.Root.{IsRoot};
 ghost use Rattle.new_database.specs.Maker.{root_file as root_named};
 ghost use Rattle.stable_lines.specs.Journal.{Journal, IsJournalOf, next_slot};
-ghost use Rattle.opened_store.specs.Opened.{AreUsedUp};
+ghost use Rattle.line_runs.specs.opened_store.Opened.{AreUsedUp};
 ghost use Rattle.workload_runs.specs.Scripts.{scripts_in, texts_in};
 
 use crate::Plan;

@@ -1,7 +1,7 @@
 // The runs of a workload, each over what the one before left.
 ghost use Rattle.std.specs.Prelude.{◌≡◌, ◌≤◌, ◌<◌, ◌^◌, ◌+◌, ◌∷◌, All, Some, [], true, false, length};
-ghost use Rattle.line_cluster.specs.Deaths.{RoseBy};
-ghost use Rattle.line_cluster.specs.Sound.{FollowsScripts};
+ghost use Rattle.line_runs.specs.line_cluster.Deaths.{RoseBy};
+ghost use Rattle.line_runs.specs.line_cluster.Sound.{FollowsScripts};
 ghost use Rattle.line_runs.specs.Openings.{HasNoNumbers, OpensWith, stop_of};
 ghost use Rattle.line_runs.specs.Prefix.{GaveUp};
 ghost use Rattle.workload_replies.specs.Replies.{has_death};
@@ -18,11 +18,10 @@ use crate::part::{Done, run_part};
 use crate::preparing::{Part, Prepared, prepare};
 use crate::saying::MOST_SESSIONS;
 use lent_values::Naming;
-use line_cluster::{Halt, Origin};
+use line_runs::{Halt, Origin, ReservingStatements};
 use rdb_account::Event;
 use rdb_drive::Gate;
 use rdb_outside::Disk;
-use rdo_reserving::ReservingStatements;
 use session_jobs::Statements;
 use std::alloc::Global;
 use std::marker::{Brand, Send};

@@ -8,7 +8,7 @@ ghost use Rattle.root_file.specs.Root.{IsRoot};
 ghost use Rattle.new_database.specs.Maker.{root_file as root_named};
 ghost use Rattle.stable_lines.specs.Journal.{Journal, IsJournalOf, next_slot};
 ghost use Rattle.line_opening.specs.Passing.{IsNext};
-ghost use Rattle.opened_store.specs.Opened.{AreUsedUp};
+ghost use Rattle.line_runs.specs.opened_store.Opened.{AreUsedUp};
 ghost use Rattle.workload_runs.specs.Numbers.{Wanted};
 
 use line_moves::aij_file;

@@ -2,7 +2,7 @@
 ghost use Rattle.std.specs.Prelude.{◌≡◌, ◌⊎◌, true, None, Some};
 ghost use Rattle.workload_runs.specs.Statuses.{stopped_status};
 
-use line_cluster::Halt;
+use line_runs::Halt;
 use line_store::Fault;
 
 /// The status of sessions that were stopped: 3 where a device call failed, 4 over a slot or a line that is none of its kind, else 5.

@@ -7,7 +7,7 @@ ghost use Rattle.new_database.specs.Maker.{IsUnmade, HasRoot};
 ghost use Rattle.new_database.specs.New.{IsNewDatabase, IsNewDatabaseOrNone};
 ghost use Rattle.rdb_account.specs.Events.{event_of};
 ghost use Rattle.rdb_meaning.specs.Contents.{no_tables};
-ghost use Rattle.line_cluster.specs.Deaths.{RoseBy};
+ghost use Rattle.line_runs.specs.line_cluster.Deaths.{RoseBy};
 ghost use Rattle.line_runs.specs.Openings.{HasNoNumbers};
 ghost use Rattle.line_runs.specs.Prefix.{HoldsAll};
 ghost use Rattle.rmu_commands.specs.Written.{HasText};
@@ -26,15 +26,13 @@ use crate::laws::told_is_left;
 use crate::preparing::{Part, prepare};
 use crate::runs::{Ready, run_first};
 use crate::stopping::seen;
-use line_cluster::Halt;
+use line_runs::{Halt, ReservingStatements, a_new_database_opens};
 use line_store::Fault;
 use new_database::{NewFault, make_new};
-use opened_store::a_new_database_opens;
 use rdb_account::Events;
 use rdb_drive::Gate;
 use rdb_outside::{Disk, Sink};
 use rdb_types::{Items, Limits, Word};
-use rdo_reserving::ReservingStatements;
 use session_jobs::Statements;
 use stable_lines::new_is_kept;
 use std::alloc::Global;
@@ -203,7 +201,9 @@ where
     // A device call failed, or one on the sink.
     ensures device { result.status ≡ 3 → Rose (D.view disk).faults (D.view result.disk).faults }
     ensures sink { result.status ≡ 6 → Rose (K.faults out.old) (K.faults out.new) }
-    // Where none of either failed it ends with 0, 4, 5, 7 or 8.
+    // Behind it VERIFY finds no fault.
+    ensures faultless { IsTrue (D.view disk).tells → IsUnmade (D.view disk) → result.status ≡ 7 → ⊥ }
+    // Where none of either failed it ends with 0, 4, 5 or 8.
     ensures unharmed { IsTrue (D.view disk).tells → IsUnmade (D.view disk) →
         (Rose (D.view disk).faults (D.view result.disk).faults → ⊥) → (Rose (K.faults out.old) (K.faults out.new) → ⊥) → is_unharmed result.status ≡ true }
     // As many device calls failed as sessions died of a device, and under status 3 one more.

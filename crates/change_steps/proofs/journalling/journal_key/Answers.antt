@@ -1,4 +1,4 @@
-use Rattle.std.proofs.Common.{◌≡◌, ◌<◌, ◌++◌, ◌∷◌, [], ℕ, List, false, arith, Err, length, slice_index_or, Some, sym, ap, subst, ◌∙◌}
+use Rattle.std.proofs.Common.{◌≡◌, ◌<◌, ◌++◌, ◌∷◌, [], ℕ, List, false, arith, Err, Ok, length, slice_index_or, Some, sym, ap, subst, ◌∙◌}
 use Rattle.std.specs.Prelude.{slice_get}
 use Rattle.std.proofs.lemmas.Option.{same_Some, slice_get-get_or}
 use Rattle.rdb_types.specs.declared.keys.Dbkey.{Dbkey}
@@ -6,7 +6,8 @@ use Rattle.rdb_outside.specs.Disk.{View}
 use Rattle.stable_lines.specs.Slots.{Undo}
 use Rattle.disk_seats.specs.Ledgers.{changing, Ledger, stands_as}
 use Rattle.rdb_outside.specs.Moments.{each_slot}
-use Rattle.line_store.specs.Calls.{Fails, GoesOn, Moves}
+use Rattle.line_store.specs.Calls.{Fails, GoesOn}
+use Rattle.line_store.specs.declared.answers.Fault.TheVariants.{Bad}
 use Rattle.line_store.specs.Sights.{Does}
 use Rattle.disk_seats.specs.Members.{LedgerFacts}
 use Rattle.member_steps.specs.Journalling.{ledger_with}
@@ -20,7 +21,7 @@ use Rattle.disk_store.specs.Shown.{sight_of}
 use Rattle.disk_store.specs.ChangeSteps.{named_now, journalled_more}
 use Rattle.disk_store.proofs.Closing.{one-member}
 use Rattle.change_steps.proofs.ChangeCalls.{place-for, fewer-at}
-use Rattle.change_steps.proofs.JournalSteps.{does-name, named-fewer, does-journal, journalled-fewer, header-facts, does-astray, does-fault}
+use Rattle.change_steps.proofs.JournalSteps.{does-name, named-fewer, does-journal, journalled-fewer, header-facts, does-unnamed, does-fault}
 use Rattle.change_steps.proofs.journalling.journal_key.Goals as goal
 
 behind-image : (w : View) (what : Journalled) (s : ℕ) (all : List Undo) (undo : Undo) (stable : ℕ) (g : Ledger) → what ≡ BeforeImage → LedgerFacts w (ledger_with what s all undo stable g) → LedgerFacts w (stands_as s (changing (all ++ undo ∷ []) stable) g)
@@ -49,9 +50,10 @@ returns-then-named-clause-comes g c =
     let at : m.stage ≡ stage.Changing = subst (λ (x : Member). x.stage ≡ stage.Changing) one c.requires.changes.at in
     let comes = c.set_stage.ensures.comes in
     let same : comes.0 ≡ m = one-member held.members s comes.0 m comes.1 c.member-member.ensures in
-    subst (λ (new : StoreMemory). Does s (stand_at held.members s) (λ h k. Moves s (h.seat s) h k) (sight_of v held) (sight_of w new)) (sym (comes.2 ∙ ap (λ (x : Member). with_member s (at_stage stage.Broken x) held) same))
-    (does-astray v w held s m c.member-member.ensures c.sound.ensures at c.journal_next.ensures.writes.0 c.journal_next.ensures.writes.1
-    (λ t ledger has facts. c.journal_next.ensures.keeps t ledger has.transaction has.all has.stable facts has.stands has.is_open has.number has.count))
+    subst (λ (new : StoreMemory). Does s (stand_at held.members s) (λ h k. Fails s (Bad c.ruj_file.result 0) h k) (sight_of v held) (sight_of w new)) (sym (comes.2 ∙ ap (λ (x : Member). with_member s (at_stage stage.Broken x) held) same))
+    (does-unnamed v w held s m c.member-member.ensures c.sound.ensures at c.journal_next.ensures.writes.0 c.journal_next.ensures.writes.1
+    (λ t ledger has facts. c.journal_next.ensures.keeps t ledger has.transaction has.all has.stable facts has.stands has.is_open has.number has.count)
+    c.ruj_file.result 0 c.if-named.true (λ t. c.in-Ok-Header.ensures.another (ap Ok c.in-Ok-Header.field-0-is) t))
 
 pub returns-in-Err-clause-comes : goal.returns-in-Err-clause-comes
 returns-in-Err-clause-comes g c =
@@ -101,7 +103,8 @@ returns-else-named-clause-comes g c =
     let same : comes.0 ≡ m = one-member held.members s comes.0 m comes.1 c.member-member.ensures in
     subst (λ (new : StoreMemory). Does s (stand_at held.members s) (λ h k. GoesOn s h k) (sight_of v held) (sight_of w new)) (sym (comes.2 ∙ ap (λ (x : Member). with_member s (named_now x) held) same))
     (does-name v w held s m c.member-member.ensures c.sound.ensures at c.journal_next.ensures.writes.0 c.journal_next.ensures.writes.1
-    (header-facts v w held s m c.member-member.ensures c.sound.ensures _ (is _) (λ t ledger o all stable facts stands open-is tsn count none left within. behind-header w _ s all _ stable ledger c.in-Ok-Header.field-0-is (c.in-Ok-Header.ensures.goes_on t ledger o all stable facts stands open-is tsn count none left within))) c.if-named.false)
+    (header-facts v w held s m c.member-member.ensures c.sound.ensures _ (is _) (λ t ledger o all stable facts stands open-is tsn count none left within. behind-header w _ s all _ stable ledger c.in-Ok-Header.field-0-is (c.in-Ok-Header.ensures.goes_on t ledger o all stable facts stands open-is tsn count none left within))) c.if-named.false
+    (λ t. c.in-Ok-Header.ensures.names (ap Ok c.in-Ok-Header.field-0-is) t))
 
 pub returns-in-Ok-BeforeImage-clause-less : goal.returns-in-Ok-BeforeImage-clause-less
 returns-in-Ok-BeforeImage-clause-less g c more =

@@ -1,7 +1,8 @@
-use Rattle.std.proofs.Common.{◌≡◌, Err, sym, ap, subst, ◌∙◌, arith}
+use Rattle.std.proofs.Common.{◌≡◌, IsTrue, Err, inl, inr, sym, ap, subst, ◌∙◌, arith}
 use Rattle.std.proofs.lemmas.Option.{same_Some}
+use Rattle.rdb_outside.specs.Disk.{IsPending}
 use Rattle.rdb_outside.specs.Moments.{each_slot}
-use Rattle.line_store.specs.Calls.{Fails}
+use Rattle.line_store.specs.Calls.{Fails, GoesOn}
 use Rattle.line_store.specs.Sights.{Does}
 use Rattle.disk_store.specs.declared.member.Member.{Member}
 use Rattle.disk_store.specs.declared.member.MemberStage.TheVariants as stage
@@ -9,7 +10,7 @@ use Rattle.disk_store.specs.Memory.{StoreMemory}
 use Rattle.disk_store.specs.Seats.{stand_at}
 use Rattle.disk_store.specs.Shown.{sight_of}
 use Rattle.change_steps.proofs.PushFaults.{does-push-fail}
-use Rattle.change_steps.proofs.NextPushed.{does-next-push, next-pushed-less}
+use Rattle.change_steps.proofs.NextPushed.{does-next-pass, does-next-push, next-passed-less, next-pushed-less}
 use Rattle.change_steps.proofs.pushing.push_key.Goals as goal
 
 pub returns-in-Err-clause-comes : goal.returns-in-Err-clause-comes
@@ -24,12 +25,25 @@ returns-in-Err-clause-comes g c =
     (does-push-fail v w held s off.member off.was at c.args.key off.chain off.slots off.takes c.in-Err.fault
     (λ e. c.in-Err.ensures.failed (ap Err e)) (λ h shown file slot e. c.in-Err.ensures.bad file slot (ap Err e) h shown))
 
+-- it was pushed aside, or has nothing to push
 pub returns-clause-comes : goal.returns-clause-comes
 returns-clause-comes g c =
     let v = g.D.Disk.view c.args.disk.now in
-    does-next-push v (g.D.Disk.view c.push_next.new.disk) c.args.held.now c.push_next.new.self c.args.s.number c.args.key c.requires.changes c.requires.next c.in_default.ensures.pushed c.sound.ensures
-    (λ tells. each_slot v v.content (g.met.D.Disk.content_left c.args.disk.now v.moment tells (omega arith)))
+    let w = g.D.Disk.view c.push_next.new.disk in
+    let s = c.args.s.number in
+    let held : StoreMemory = c.args.held.now in
+    let behind : StoreMemory = c.push_next.new.self in
+    let now : IsTrue v.tells → IsPending v v.content = λ tells. each_slot v v.content (g.met.D.Disk.content_left c.args.disk.now v.moment tells (omega arith)) in
+    elim c.in_default.ensures.pushed [
+      | inl pushes ↦ does-next-push v w held behind s c.args.key c.requires.changes c.requires.next pushes c.sound.ensures now
+      | inr passes ↦ subst (λ d. Does s (stand_at held.members s) (λ h k. GoesOn s h k) (sight_of v held) (sight_of (g.D.Disk.view d) behind)) (sym passes.1) (does-next-pass v held behind s c.args.key c.requires.changes c.requires.next passes.0 c.sound.ensures now)
+    ]
 
 pub returns-clause-less : goal.returns-clause-less
 returns-clause-less g c more =
-    next-pushed-less (g.D.Disk.view c.args.disk.now) (g.D.Disk.view c.push_next.new.disk) c.args.held.now c.push_next.new.self c.args.s.number c.args.key c.requires.changes c.requires.next c.in_default.ensures.pushed
+    let v = g.D.Disk.view c.args.disk.now in
+    let w = g.D.Disk.view c.push_next.new.disk in
+    elim c.in_default.ensures.pushed [
+      | inl pushes ↦ next-pushed-less v w c.args.held.now c.push_next.new.self c.args.s.number c.args.key c.requires.changes c.requires.next pushes
+      | inr passes ↦ next-passed-less v c.args.held.now c.push_next.new.self c.args.s.number c.args.key c.requires.changes c.requires.next passes.0
+    ]

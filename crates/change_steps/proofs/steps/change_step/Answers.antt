@@ -16,8 +16,8 @@ journal_key-requires-clause-changes g c =
       less = omega (arith, keys, c.if-journalled-count.true);
     }
 
-pub push_or_pass-requires-clause-changes : goal.push_or_pass-requires-clause-changes
-push_or_pass-requires-clause-changes g c =
+pub push_line-requires-clause-changes : goal.push_line-requires-clause-changes
+push_line-requires-clause-changes g c =
     let m : Member = c.member-member.result.now in
     let at = c.requires.changes in
     let keys = ap (λ ks. length ks) c.keys.ensures.value in

@@ -62,6 +62,7 @@ returns g c m was =
     let made : MakesTurn v w c.args.turn c.group_of-group.result c.lines.result.now c.deref.result.now c.commit_next.result = record {
       distinct = subst AreDistinct (sym c.lines.ensures.value) (are-distinct x.written.lines (c.sound.ensures.each c.args.s.number x c.member-member.ensures).keys.ordered);
       writes = record { file = writes.0; slot = writes.1; not_snap = writes.2; not_root = writes.3; only = writes.4 };
+      journals = c.commit_next.ensures.journals;
       failed = c.commit_next.ensures.failed;
       bad = c.commit_next.ensures.bad;
       changes = c.commit_next.ensures.changes;

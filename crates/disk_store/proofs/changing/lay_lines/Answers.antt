@@ -32,7 +32,7 @@ returns-in-Err-set_aside-clause-cause c =
     record {
       wanted = all_of wanted;
       few =
-          let short = few-of _ _ _ c.wanted_of-wanted.ensures in
+          let short = few-of _ _ _ c.wanted_of-wanted.ensures.count in
           let added = c.in_default.ensures.added.added.count in
           let now = ap (λ ks. length ks) c.keys.ensures.value in
           let old = ap (λ ks. length ks) c.keys-count.ensures.value in

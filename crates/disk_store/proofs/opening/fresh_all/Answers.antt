@@ -1,4 +1,4 @@
-use Rattle.std.proofs.Common.{rules, ◌≡◌, ◌⊎◌, inl, inr, ⊎_elim, ◌+◌, ◌++◌, ℕ, zero, suc, List, [], ◌∷◌, length, Some, slice_get, sym, ap, subst, ◌∙◌, arith, length-append}
+use Rattle.std.proofs.Common.{rules, ◌≡◌, ◌⊎◌, inl, inr, ⊎_elim, ◌+◌, ◌++◌, ℕ, zero, suc, List, [], ◌∷◌, length, Some, slice_get, sym, ap, subst, ◌∙◌, length-append}
 use Rattle.std.proofs.lemmas.Option.{same_Some, none-some}
 use Rattle.disk_store.specs.declared.member.Member.{Member}
 use Rattle.disk_store.specs.Opening.{IsFresh}

@@ -1,5 +1,5 @@
 use Rattle.std.proofs.Common.{◌≤◌, ℕ, ap, sym, subst, Err}
-use Rattle.disk_store.specs.Shown.{sight_of}
+use Rattle.opened_store.specs.disk_store.Shown.{sight_of}
 use Rattle.disk_line_store.specs.Back.{IsBack}
 use Rattle.line_runs.proofs.Opening.{at-moment, begins-shown, same-shown}
 use Rattle.line_runs.proofs.Prefix.{gave-up-behind, gave-up-within, no-fewer}

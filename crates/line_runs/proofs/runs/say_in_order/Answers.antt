@@ -2,8 +2,8 @@ use Rattle.std.proofs.Common.{map, refl, ap, subst, sym, ◌∙◌}
 use Rattle.std.proofs.lemmas.Bool.{false≢true}
 use Rattle.std.proofs.lemmas.Option.{none-some}
 use Rattle.rdb_account.specs.Events.{event_of}
-use Rattle.line_cluster.specs.Deaths.{RoseBy, failures}
-use Rattle.line_cluster.specs.Sound.{is_over_slot}
+use Rattle.line_drive.specs.line_cluster.Deaths.{RoseBy, failures}
+use Rattle.line_drive.specs.line_cluster.Sound.{is_over_slot}
 use Rattle.line_runs.proofs.Opening.{rose-none, same-fault}
 use Rattle.line_runs.proofs.runs.say_in_order.Goals as goal
 

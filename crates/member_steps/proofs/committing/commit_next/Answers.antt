@@ -1,12 +1,13 @@
 use Rattle.std.proofs.Common.{◌≡◌, ◌∙◌, ap, refl, sym, subst}
-use Rattle.rdb_types.specs.declared.file.FileKind.TheVariants.{Area, Root as RootKind, Snap}
-use Rattle.stable_lines.specs.Slots.{area_file}
+use Rattle.rdb_types.specs.declared.file.FileKind.TheVariants.{Area, Root as RootKind, Ruj, Snap}
+use Rattle.stable_lines.specs.Slots.{area_file, ruj_file}
 use Rattle.line_moves.proofs.Runs.{writes_none}
 use Rattle.line_moves.proofs.PageClasses.{owners_stay, classes_read}
 use Rattle.line_seat.proofs.CommitSteps.{if_ok}
 use Rattle.member_steps.specs.declared.committing.CommitTurn.{CommitTurn}
 use Rattle.member_steps.specs.declared.committing.CommitTurn.TheVariants.{Going}
 use Rattle.disk_seats.specs.Members.{LedgerFacts}
+use Rattle.member_steps.proofs.JournalsStay.{journals_beside}
 use Rattle.member_steps.specs.Turns.{plan_of, TurnFacts, NextFacts, ledger_behind, ledger_held}
 use Rattle.member_steps.proofs.committing.commit_next.Goals as goal
 
@@ -88,3 +89,13 @@ pub returns-in-Going-clause-bad : goal.returns-in-Going-clause-bad
 returns-in-Going-clause-bad g c = let old = g.D.Disk.view c.args.disk.now in λ file slot is t ledger member o all flight by_area was facts room.
     c.go_further.ensures.bad file slot is t ledger member o all flight by_area was
     (subst (λ (u : CommitTurn). TurnFacts u old ledger (plan_of member o all c.args.group c.args.lines.now c.args.classes.now flight)) c.in-Going.is facts) room
+
+pub returns-in-Entering-clause-journals : goal.returns-in-Entering-clause-journals
+returns-in-Entering-clause-journals g c = let v = g.D.Disk.view in let writes = c.enter_next.ensures.writes in λ t member slot.
+    journals_beside (v c.args.disk.now) (v c.enter_next.new.disk) (area_file writes.0) writes.1 t (λ k. let bad : Area ≡ Ruj = k in cc) writes.2 member slot
+
+pub returns-in-Securing-clause-journals : goal.returns-in-Securing-clause-journals
+returns-in-Securing-clause-journals g c = λ t member slot. (c.secure.ensures.reads.keeps t).content (ruj_file member) slot
+
+pub returns-in-Going-clause-journals : goal.returns-in-Going-clause-journals
+returns-in-Going-clause-journals g c = λ t member slot. c.go_further.ensures.journals t member slot

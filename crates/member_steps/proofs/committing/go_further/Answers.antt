@@ -1,5 +1,6 @@
 use Rattle.std.proofs.Common.{rules}
 use Rattle.member_steps.specs.Turns.{plan_of}
+use Rattle.member_steps.proofs.JournalsStay.{journals_beside, no_journal}
 use Rattle.member_steps.proofs.OwnersSaid.{goes_so}
 use Rattle.member_steps.proofs.committing.go_further.Goals as goal
 
@@ -18,3 +19,11 @@ returns-clause-goes_on g c = let w = g.D.Disk.view c.go_on.new.disk in λ t ledg
 pub returns-in_err-next-clause-bad : goal.returns-in_err-next-clause-bad
 returns-in_err-next-clause-bad g c = λ file slot is t ledger member o all flight by_area was facts room.
     c.go_on.ensures.bad file slot (search rules) t ledger member (record { tsn = o.tsn; entries = all }) flight by_area was facts room
+
+pub returns-in_err-next-clause-journals : goal.returns-in_err-next-clause-journals
+returns-in_err-next-clause-journals g c = let v = g.D.Disk.view in let writes = c.go_on.ensures.writes in λ t member slot.
+    journals_beside (v c.args.disk.now) (v c.go_on.new.disk) writes.0 writes.1 t (no_journal writes.0 writes.1 writes.2) writes.3 member slot
+
+pub returns-clause-journals : goal.returns-clause-journals
+returns-clause-journals g c = let v = g.D.Disk.view in let writes = c.go_on.ensures.writes in λ t member slot.
+    journals_beside (v c.args.disk.now) (v c.go_on.new.disk) writes.0 writes.1 t (no_journal writes.0 writes.1 writes.2) writes.3 member slot

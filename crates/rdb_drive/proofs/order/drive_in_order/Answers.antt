@@ -10,10 +10,10 @@ pub returns-in-Over-clause-order : goal.returns-in-Over-clause-order
 returns-in-Over-clause-order g c =
     let b = g.X.Driven.board in
     let r = c.in-Over.ensures in
-    λ t. order_on c.args.order.now g.X.Driven.sessions (b c.args.x.now) (b c.loop.x) (b c.go_round.new.x) c.loop.invariant r.0 r.1
+    λ t. order_on c.args.order.now g.X.Driven.sessions (b c.args.x.now) (b c.loop-bench.x) (b c.go_round.new.x) c.loop-bench.invariant r.0 r.1
 
-pub loop-preserved : goal.loop-preserved
-loop-preserved g c =
+pub loop-bench-preserved : goal.loop-bench-preserved
+loop-bench-preserved g c =
     let b = g.X.Driven.board in
-    let r = went_round g.X.Driven.sessions (b c.loop.x) (b c.go_round.new.x) c.go_round.result c.in_default-go_round.not-Halts c.in_default-go_round.not-Over c.go_round.ensures in
-    order_on c.args.order.now g.X.Driven.sessions (b c.args.x.now) (b c.loop.x) (b c.go_round.new.x) c.loop.invariant r.0 r.1
+    let r = went_round g.X.Driven.sessions (b c.loop-bench.x) (b c.go_round.new.x) c.go_round.result c.in_default-go_round.not-Halts c.in_default-go_round.not-Over c.go_round.ensures in
+    order_on c.args.order.now g.X.Driven.sessions (b c.args.x.now) (b c.loop-bench.x) (b c.go_round.new.x) c.loop-bench.invariant r.0 r.1

@@ -1,5 +1,5 @@
 use Rattle.std.proofs.Common.{◌∙◌, ◌⊎◌, ℕ, Option, inl, inr, ap, subst, sym}
-use Rattle.line_cluster.specs.declared.sessions.Halt.{Halt}
+use Rattle.workload_runs.specs.line_cluster.declared.sessions.Halt.{Halt}
 use Rattle.workload_runs.specs.Statuses.{IsOverLine, IsOverSlot}
 use Rattle.workload_runs.proofs.Stops.{stopped-bad, unopened-bad}
 use Rattle.rdb_top.proofs.Stopped.{whole-is-good}

@@ -6,15 +6,16 @@ use Rattle.rmu_keeping.specs.Keeping.{BacksUp, BacksUpWithin, CopiesJournal, Cop
 use Rattle.rmu_keeping.specs.Rolling.{HasRolled, TellsGroups}
 use Rattle.rdb_account.specs.Events.{event_of}
 use Rattle.rdb_account.specs.Legal.{IsLegal}
-use Rattle.line_cluster.specs.Sound.{is_over_slot}
-use Rattle.line_cluster.specs.Turned.{HaveAllEnded}
-use Rattle.line_drive.specs.Turns.{KeepsTurns}
-use Rattle.line_runs.specs.Openings.{said_to}
+use Rattle.workload_runs.specs.line_cluster.Sound.{is_over_slot}
+use Rattle.workload_runs.specs.line_cluster.Turned.{HaveAllEnded}
+use Rattle.workload_runs.specs.line_drive.Turns.{KeepsTurns}
+use Rattle.workload_runs.specs.line_runs.Openings.{said_to}
 use Rattle.command_words.specs.declared.words.Scripts.{Scripts}
 use Rattle.command_words.specs.Words.{word_of, order_in}
 use Rattle.rdb_top.specs.Deaths.{letting}
 use Rattle.rdb_top.specs.Runs.{scripts_of, IsRun, OfSomeScripts}
 use Rattle.sound_maps.specs.Maps.{IsSoundWith}
+use Rattle.workload_runs.proofs.Faultless.{standing-lists-none}
 use Rattle.workload_runs.proofs.Opening.{opens-has-root}
 use Rattle.rdb_top.specs.Workloads.{AreWorkloadRuns, LeavesAll, LeavesRuns}
 use Rattle.rdb_top.proofs.Givens.{same-given, same-backup, same-copy, same-restore, same-workload}
@@ -62,6 +63,10 @@ pub returns-in-Some-Rdo-clause-left : goal.returns-in-Some-Rdo-clause-left
 returns-in-Some-Rdo-clause-left g c given row told tells whole =
     all-of-given _ (g.D.Disk.view c.run_rdo.result.disk) g.O.Origin.opening (map event_of c.run_rdo.result.events) (word_of c.args.words.now) (g.S.Source.left c.args.scripts.now) c.in-Some-Rdo.given given
     (same-given c.in-Some-Rdo.given given _ (ap Some (sym c.in-Some-Rdo.field-0-is) ∙ c.in-Some-Rdo.ensures.row) row) (c.run_rdo.ensures.left told tells whole)
+
+pub returns-in-Some-Verify-clause-faultless : goal.returns-in-Some-Verify-clause-faultless
+returns-in-Some-Verify-clause-faultless g c row told tables stands seven =
+    standing-lists-none (g.D.Disk.view c.args.disk) tables c.verify_command-status.result _ _ _ stands told c.verify_command-status.ensures.verifies (sym c.unsaid-in-Some-Verify.ensures.status ∙ seven)
 
 pub returns-in-Some-Backup-clause-backed_up : goal.returns-in-Some-Backup-clause-backed_up
 returns-in-Some-Backup-clause-backed_up g c number row is told =

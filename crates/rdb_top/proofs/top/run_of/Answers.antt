@@ -1,5 +1,5 @@
 use Rattle.std.proofs.Common.{◌∙◌, sym, subst}
-use Rattle.line_runs.specs.Openings.{HasNoNumbers}
+use Rattle.workload_runs.specs.line_runs.Openings.{HasNoNumbers}
 use Rattle.workload_runs.proofs.Stops.{over-told, unsound-told}
 use Rattle.rdb_top.proofs.top.run_of.Goals as goal
 

@@ -1,12 +1,12 @@
 use Rattle.std.proofs.Common.{None, inl, inr, ap, map, subst, sym, refl, ◌∙◌}
 use Rattle.std.proofs.lemmas.Bool.{false≢true}
 use Rattle.std.proofs.lemmas.Option.{none-some}
-use Rattle.line_cluster.specs.Sound.{is_over_slot}
+use Rattle.workload_runs.specs.line_cluster.Sound.{is_over_slot}
 use Rattle.rdb_account.specs.Events.{event_of}
 use Rattle.rdb_account.specs.Legal.{IsLegal}
-use Rattle.line_cluster.specs.Turned.{HaveAllEnded}
-use Rattle.line_drive.specs.Turns.{KeepsTurns}
-use Rattle.line_runs.specs.Openings.{said_to}
+use Rattle.workload_runs.specs.line_cluster.Turned.{HaveAllEnded}
+use Rattle.workload_runs.specs.line_drive.Turns.{KeepsTurns}
+use Rattle.workload_runs.specs.line_runs.Openings.{said_to}
 use Rattle.command_words.specs.Words.{word_of, order_in}
 use Rattle.rdb_top.specs.Deaths.{letting}
 use Rattle.rdb_top.specs.Runs.{scripts_of, IsWhole}

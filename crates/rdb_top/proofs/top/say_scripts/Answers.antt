@@ -4,11 +4,11 @@ use Rattle.std.proofs.lemmas.Option.{none-some}
 use Rattle.rdb_drive.specs.Boards.{MayDie}
 use Rattle.rdb_account.specs.Events.{event_of}
 use Rattle.rdb_account.specs.Legal.{IsLegal}
-use Rattle.line_cluster.specs.Sound.{is_over_slot}
-use Rattle.line_cluster.specs.Turned.{HaveAllEnded}
-use Rattle.line_drive.specs.Boards.{mortals_of}
-use Rattle.line_drive.specs.Turns.{KeepsTurns}
-use Rattle.line_runs.specs.Openings.{said_to}
+use Rattle.workload_runs.specs.line_cluster.Sound.{is_over_slot}
+use Rattle.workload_runs.specs.line_cluster.Turned.{HaveAllEnded}
+use Rattle.workload_runs.specs.line_drive.Boards.{mortals_of}
+use Rattle.workload_runs.specs.line_drive.Turns.{KeepsTurns}
+use Rattle.workload_runs.specs.line_runs.Openings.{said_to}
 use Rattle.command_words.specs.Words.{order_in, word_of}
 use Rattle.command_words.specs.declared.deaths.Death.{Death}
 use Rattle.rdb_top.specs.Deaths.{letting, sessions_dying}

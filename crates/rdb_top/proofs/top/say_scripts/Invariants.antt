@@ -1,5 +1,5 @@
 use Rattle.std.proofs.Common.{length}
-use Rattle.line_runs.specs.Openings.{said_to}
+use Rattle.workload_runs.specs.line_runs.Openings.{said_to}
 use Rattle.rdb_top.specs.Deaths.{letting}
 use Rattle.rdb_top.proofs.top.say_scripts.Given as goal
 

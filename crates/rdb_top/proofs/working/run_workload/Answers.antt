@@ -6,7 +6,7 @@ use Rattle.rdb_outside.specs.Runs.{no_calls}
 use Rattle.rdb_meaning.specs.Contents.{no_tables}
 use Rattle.rdb_account.specs.declared.event.Event.{Event}
 use Rattle.rdb_account.specs.Events.{event_of}
-use Rattle.line_cluster.specs.Deaths.{RoseBy, device_deaths}
+use Rattle.workload_runs.specs.line_cluster.Deaths.{RoseBy, device_deaths}
 use Rattle.command_words.specs.Options.{limits_of, nothing_asked}
 use Rattle.sound_maps.specs.Maps.{IsSoundWith}
 use Rattle.rmu_commands.specs.Written.{HasText}
@@ -118,6 +118,9 @@ returns-in-Ok-clause-refused g c told unmade four =
 pub returns-in-Ok-clause-halted : goal.returns-in-Ok-clause-halted
 returns-in-Ok-clause-halted g c why is = c.last_apart.ensures.status ∙ c.workload.ensures.halted why (sym c.last_apart.ensures.halt ∙ is)
 
+pub returns-in-Ok-clause-faultless : goal.returns-in-Ok-clause-faultless
+returns-in-Ok-clause-faultless g c told unmade seven = c.workload.ensures.faultless told unmade (sym c.last_apart.ensures.status ∙ seven)
+
 pub returns-in-Ok-clause-unharmed : goal.returns-in-Ok-clause-unharmed
 returns-in-Ok-clause-unharmed g c told unmade disk sink =
     let v = g.D.Disk.view in
@@ -166,6 +169,9 @@ returns-in-Err-clause-refused g c told unmade four = absurd (let five = c.unsaid
 
 pub returns-in-Err-clause-halted : goal.returns-in-Err-clause-halted
 returns-in-Err-clause-halted g c why is = absurd (none-some why (sym c.unsaid.ensures.halt ∙ is))
+
+pub returns-in-Err-clause-faultless : goal.returns-in-Err-clause-faultless
+returns-in-Err-clause-faultless g c told unmade seven = absurd (let five = c.unsaid.ensures.status in omega (arith, five, seven))
 
 pub returns-in-Err-clause-unharmed : goal.returns-in-Err-clause-unharmed
 returns-in-Err-clause-unharmed g c told unmade disk sink = rw c.unsaid.ensures.status refl

@@ -1,6 +1,6 @@
 use Rattle.std.proofs.Common.{◌≡◌, arith, inl, inr, map, refl, sym, subst}
 use Rattle.rdb_account.specs.Events.{event_of}
-use Rattle.line_cluster.specs.Turned.{HaveAllEnded}
+use Rattle.line_runs.specs.line_cluster.Turned.{HaveAllEnded}
 use Rattle.line_runs.specs.Openings.{HasNoNumbers}
 use Rattle.sound_maps.specs.Maps.{IsSoundWith}
 use Rattle.workload_runs.specs.Runs.{Frame, IsRun}

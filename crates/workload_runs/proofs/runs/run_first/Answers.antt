@@ -3,7 +3,7 @@ use Rattle.rdb_outside.specs.Disk.{View}
 use Rattle.rdb_outside.specs.Moments.{each_slot}
 use Rattle.rdb_account.specs.Events.{event_of}
 use Rattle.rdb_account.specs.Places.{place}
-use Rattle.line_cluster.specs.Turned.{HaveAllEnded}
+use Rattle.line_runs.specs.line_cluster.Turned.{HaveAllEnded}
 use Rattle.line_runs.specs.Openings.{HasNoNumbers, said_to}
 use Rattle.sound_maps.specs.Maps.{IsSoundWith}
 use Rattle.workload_runs.specs.Left.{EndsHeld}

@@ -6,7 +6,7 @@ use Rattle.root_file.proofs.Readings.{one_root}
 use Rattle.new_database.specs.Maker.{root_file}
 use Rattle.stable_lines.specs.Journal.{IsJournalOf}
 use Rattle.line_moves.proofs.Runs.{still_tells}
-use Rattle.opened_store.specs.Opened.{AreUsedUp}
+use Rattle.line_runs.specs.opened_store.Opened.{AreUsedUp}
 use Rattle.page_faults.proofs.Reading.{image_same}
 use Rattle.workload_runs.proofs.stand.find_stand.Goals as goal
 

@@ -18,7 +18,8 @@ use Rattle.workload_runs.specs.Scripts.{scripts_of_runs}
 use Rattle.workload_runs.specs.Statuses.{IsWhole, deaths_of_last, last_of}
 use Rattle.workload_runs.proofs.Crash.{Unbegun, images-of, left-of, none-left, none-made, refused-behind}
 use Rattle.workload_runs.proofs.Deaths.{causes-of-last, fell-by, some-died}
-use Rattle.workload_runs.proofs.Ended.{harmed-all, runs-not-nine, said-so, seen-runs, seen-status, stopped-all, unharmed, unmade-not-eight, unmade-not-four, unmade-not-six, unmade-report, unmade-status}
+use Rattle.workload_runs.proofs.Ended.{harmed-all, runs-not-nine, said-so, seen-runs, seen-status, stopped-all, unharmed, unmade-not-eight, unmade-not-four, unmade-not-seven, unmade-not-six, unmade-report, unmade-status}
+use Rattle.workload_runs.proofs.Faultless.{faultless-behind}
 use Rattle.workload_runs.proofs.Opening.{none-no-root}
 use Rattle.workload_runs.proofs.Stopless.{stopless}
 use Rattle.workload_runs.proofs.Stops.{nobody-halted}
@@ -191,6 +192,26 @@ returns-in-Ok-clause-idle g c t root =
     let v = g.D.Disk.view in
     absurd (false≢true (c.in-Ok.ensures.standing (subst (λ d. IsTrue (v d).tells) (sym c.new-disk.ensures) t) (subst (λ d. HasRoot (v d).content) (sym c.new-disk.ensures) root)).0)
 
+-- ---- what is verified behind whole runs has no faults
+
+pub returns-in-Err-clause-faultless : goal.returns-in-Err-clause-faultless
+returns-in-Err-clause-faultless g c t unmade seven =
+    unmade-not-seven c.unwatched.result.status c.unmade.result.status c.unwatched.ensures.status c.unmade.ensures.status seven
+
+pub returns-in-Ok-clause-faultless : goal.returns-in-Ok-clause-faultless
+returns-in-Ok-clause-faultless g c t unmade seven =
+    let v = g.D.Disk.view in
+    let made = c.make_new.new.disk.disk in
+    let t0 = subst (λ d. IsTrue (v d).tells) (sym c.new-disk.ensures) t in
+    let u0 = subst (λ d. IsUnmade (v d)) (sym c.new-disk.ensures) unmade in
+    let tells : IsTrue (v made).tells = subst (λ (b : Bool). IsTrue b) (sym (c.in-Ok.ensures.any_moment t0 u0).told) t0 in
+    let new = c.in-Ok.ensures.made t0 u0 in
+    let held = c.begin-runs.ensures.holds tells (new (v made).content (c.told_is_left-in-Ok.ensures tells)) new in
+    let said = said-so 7 c.unwatched-in-Ok.result.status c.finish.result.status c.unwatched-in-Ok.ensures.status (λ five. omega (arith, five)) seven in
+    faultless-behind (v c.begin-runs.result.disk.disk) (v c.finish.result.disk.disk) _ _ no_tables (scripts_of_runs c.args.plan.now.accounts) c.begin-runs.result.accounts
+    c.begin-runs.result.status c.finish.result.status _ _ _ _
+    held c.finish.ensures.kept c.begin-runs.ensures.status c.begin-runs.ensures.count c.finish.ensures.reads c.told_is_left-in-Ok-2.ensures c.finish.ensures.reports said
+
 -- ---- where nothing failed
 
 pub returns-in-Err-clause-unharmed : goal.returns-in-Err-clause-unharmed
@@ -203,6 +224,7 @@ returns-in-Err-clause-unharmed g c t unmade disk sink =
     unharmed status (seen-status status said seen (unmade-status said c.unmade.ensures.status))
     (λ three. disk (subst (λ (n : ℕ). Rose n (v c.unwatched.result.disk).faults) c.requires.began (c.unwatched.ensures.device three)))
     (unmade-not-six status said seen c.unmade.ensures.status)
+    (unmade-not-seven status said seen c.unmade.ensures.status)
     (λ nine. none-no-root (v c.args.disk).content (unmade (v c.args.disk).content (c.told_is_left.ensures t))
     (subst (λ d. HasRoot (v d).content) c.new-disk.ensures (c.in-Err.ensures.not_empty (ap Err (c.unmade.ensures.taken (said-so 9 status said seen (λ five. omega (arith, five)) nine))) t0)))
 
@@ -215,6 +237,7 @@ returns-in-Ok-clause-unharmed g c t unmade disk sink =
     unharmed status (seen-status status said seen c.finish.ensures.status)
     (λ three. disk (subst (λ (n : ℕ). Rose n (v c.unwatched-in-Ok.result.disk).faults) c.requires.began (c.unwatched-in-Ok.ensures.device three)))
     (λ six. sink (c.finish.ensures.sink (said-so 6 status said seen (λ five. omega (arith, five)) six)))
+    (returns-in-Ok-clause-faultless g c t unmade)
     (λ nine.
     let is = said-so 9 status said seen (λ five. omega (arith, five)) nine in
     runs-not-nine c.begin-runs.result.status c.begin-runs.ensures.status (sym (c.finish.ensures.dead (inr is)) ∙ is))

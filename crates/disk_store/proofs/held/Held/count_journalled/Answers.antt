@@ -23,7 +23,7 @@ invariant_of-self c =
     let one : c.requires.less.member ≡ m = same_Some _ _ (sym (ap (λ (k : StoreMemory). slice_get k.members s) c.self.view_is ∙ c.requires.less.is) ∙ is) in
     let at : m.stage ≡ stage.Changing = subst (λ (x : Member). x.stage ≡ stage.Changing) one c.requires.less.at in
     let n : Member = journalled_more m in
-    (set-long i.members.items s n ∙ c.self.invariant.0, sound-member h s m n is sound (sound-as h.tables m n refl refl (sound.each s m is)) (keeps-lines m n refl refl), free-kept h s m n c.requires.member is (ap is_free at) c.self.invariant.2)
+    (set-long i.members.items s n ∙ c.self.invariant.0, sound-member h s m n is sound (sound-as h.tables m n refl refl refl refl (sound.each s m is)) (keeps-lines m n refl refl), free-kept h s m n c.requires.member is (ap is_free at) c.self.invariant.2)
 
 pub returns : goal.returns
 returns c =

@@ -1,11 +1,11 @@
-use Rattle.std.proofs.Common.{◌≡◌, List, length, Some, false, refl, sym, ap, subst, ◌∙◌, arith, rules}
+use Rattle.std.proofs.Common.{◌≡◌, List, drop, length, Some, false, refl, sym, ap, subst, ◌∙◌, arith, rules}
 use Rattle.std.specs.Prelude.{slice_get}
 use Rattle.rdb_types.specs.declared.keys.Dbkey.{Dbkey}
 use Rattle.version_writing.specs.declared.snapshot_slots.SnapshotSlots.{SnapshotSlots}
 use Rattle.disk_store.specs.declared.member.Member.{Member}
 use Rattle.disk_store.specs.declared.member.MemberStage.TheVariants as stage
 use Rattle.disk_store.specs.Memory.{StoreMemory, with_member}
-use Rattle.disk_store.specs.Sound.{IsSound}
+use Rattle.disk_store.specs.Sound.{HasSlotsFor, IsSound}
 use Rattle.disk_store.specs.Changing.{AreFit, Stops, StopsAt, with_asides, changing_with}
 use Rattle.disk_store.proofs.Members.{lent-there, set-long}
 use Rattle.disk_store.proofs.LaidLines.{laid-sound}
@@ -29,11 +29,12 @@ was c = lent-there c.self.inside.members.items c.args.s.number c.index_mut-membe
 pub invariant_of-self-2 : goal.invariant_of-self-2
 invariant_of-self-2 c =
     let m : Member = c.index_mut-member.result.now in
-    let fit : AreFit c.args.s.number c.self.inside.tables c.self.inside.members.items c.args.writes.now = subst (λ (h : StoreMemory). AreFit c.args.s.number h.tables h.members c.args.writes.now) (sym c.self.view_is) c.requires.fit in (
+    let fit : AreFit c.args.s.number c.self.inside.tables c.self.inside.members.items c.args.writes.now = subst (λ (h : StoreMemory). AreFit c.args.s.number h.tables h.members c.args.writes.now) (sym c.self.view_is) c.requires.fit in
+    let enough : HasSlotsFor (before c).tables c.in_ok-wanted.wanted (drop (length m.written.keys) c.lay_lines.new.lines.keys) = c.in_ok-wanted.ensures.enough in (
       set-long c.self.inside.members.items c.args.s.number _ ∙ c.self.invariant.0,
       subst (λ (ks : List Dbkey). IsSound (after c ks c.lay_lines.new.slots)) (sym c.keys-count.ensures.value)
           (subst (λ (sl : SnapshotSlots). IsSound (after c m.written.keys sl)) (sym c.in_ok-wanted.ensures.aside)
-          (laid-sound (before c) c.args.s.number m c.args.writes.now c.lay_lines.new.lines (was c) c.self.invariant.1 fit c.in_ok-wanted.ensures.laid c.in_ok-wanted.wanted)),
+          (laid-sound (before c) c.args.s.number m c.args.writes.now c.lay_lines.new.lines (was c) c.self.invariant.1 fit c.in_ok-wanted.ensures.laid c.in_ok-wanted.wanted enough)),
       slots-kept (with_member c.args.s.number (laid-now c) (before c)) c.lay_lines.new.slots (free-kept (before c) c.args.s.number m (laid-now c) c.requires.member (was c) refl c.self.invariant.2),
     )
 

@@ -1,18 +1,19 @@
-use Rattle.std.proofs.Common.{◌≡◌, Some, refl, sym, ap, subst, ◌∙◌, arith}
+use Rattle.std.proofs.Common.{◌≡◌, List, drop, length, Some, refl, sym, ap, subst, ◌∙◌, arith}
 use Rattle.std.specs.Prelude.{slice_get}
 use Rattle.std.proofs.lemmas.Option.{same_Some}
+use Rattle.rdb_types.specs.declared.keys.Dbkey.{Dbkey}
 use Rattle.version_writing.specs.declared.snapshot_slots.SnapshotSlots.{SnapshotSlots}
 use Rattle.disk_store.specs.declared.member.Member.{Member}
 use Rattle.disk_store.specs.declared.member.MemberStage.TheVariants as stage
-use Rattle.disk_store.specs.ChangeSteps.{without_asides}
+use Rattle.disk_store.specs.ChangeSteps.{no_slots, without_asides}
 use Rattle.disk_store.specs.Commits.{is_free}
 use Rattle.disk_store.specs.Giving.{without_slots}
 use Rattle.disk_store.specs.Memory.{StoreMemory, with_member}
 use Rattle.disk_store.specs.Seats.{IsAtStage}
-use Rattle.disk_store.specs.Sound.{IsSound}
+use Rattle.disk_store.specs.Sound.{HasSlotsFor, IsSound}
 use Rattle.disk_store.proofs.Members.{lent-there, set-long}
-use Rattle.disk_store.proofs.Sound.{sound-as}
-use Rattle.disk_store.proofs.SlotsSound.{aside-there, left-keeps, left-no-more, sound-slots}
+use Rattle.disk_store.proofs.Sound.{sound-but}
+use Rattle.disk_store.proofs.SlotsSound.{aside-there, left-keeps, left-no-more, slots-through, sound-slots}
 use Rattle.disk_store.proofs.CommitsKept.{free-kept, slots-kept}
 use Rattle.disk_store.proofs.held.Held.leave_aside.Goals as goal
 
@@ -53,13 +54,13 @@ invariant_of-self c =
     let m : Member = c.index_mut-member.result.now in
     let is : slice_get i.members.items s ≡ Some m = lent-there i.members.items s m (omega (arith, c.self.invariant.0, c.requires.member.last)) c.index_mut-member.ensures.value in
     let h : StoreMemory = record { limits = i.limits; numbers = i.numbers; next = i.next; tables = i.tables; slots = i.slots; members = i.members.items } in
-    let n : Member = without_slots m in
+    let n : Member = record (without_slots m) { pushed = length c.keys-count.result.now } in
     let at : IsAtStage h.members s stage.Outside = subst (λ (k : StoreMemory). IsAtStage k.members s stage.Outside) (sym c.self.view_is) c.requires.outside in
     let out : m.stage ≡ stage.Outside = subst (λ (x : Member). x.stage ≡ stage.Outside) (same_Some at.member m (sym at.is ∙ is)) at.at in
     let left : c.leave.new.self ≡ without_asides m.aside i.slots = λ j. record { catalog = c.leave.ensures.catalog j; relations = c.leave.ensures.relations j; indexes = c.leave.ensures.indexes j } in (
       set-long i.members.items s n ∙ c.self.invariant.0,
       subst (λ (slots : SnapshotSlots). IsSound (record (with_member s n h) { slots = slots })) (sym left)
-          (sound-slots h s m n (without_asides m.aside i.slots) is c.self.invariant.1 (sound-as h.tables m n refl refl (c.self.invariant.1.each s m is)) (record { lines = λ key line found. (line, found); asides = left-no-more m.aside }) (left-keeps m.aside i.slots)),
+          (sound-slots h s m n (without_asides m.aside i.slots) is c.self.invariant.1 (sound-but h.tables m n refl refl (subst (λ (ks : List Dbkey). HasSlotsFor h.tables no_slots (drop (length ks) m.written.keys)) (sym c.keys-count.ensures.value) (slots-through h.tables no_slots m.written.keys)) (c.self.invariant.1.each s m is)) (record { lines = λ key line found. (line, found); asides = left-no-more m.aside }) (left-keeps m.aside i.slots)),
       slots-kept (with_member s n h) c.leave.new.self (free-kept h s m n c.requires.member is (ap is_free out) c.self.invariant.2),
     )
 
@@ -74,6 +75,7 @@ returns c =
     record {
       member = m;
       was = ap (λ (k : StoreMemory). slice_get k.members s) (sym c.self.view_is) ∙ is;
-      is = ap (λ (slots : SnapshotSlots). record (with_member s (without_slots m) h) { slots = slots }) left
-          ∙ ap (λ (k : StoreMemory). record (with_member s (without_slots m) k) { slots = without_asides m.aside k.slots }) c.self.view_is;
+      is = ap (λ (slots : SnapshotSlots). record (with_member s (record (without_slots m) { pushed = length c.keys-count.result.now }) h) { slots = slots }) left
+          ∙ (ap (λ (ks : List Dbkey). record (with_member s (record (without_slots m) { pushed = length ks }) h) { slots = without_asides m.aside i.slots }) c.keys-count.ensures.value
+          ∙ ap (λ (k : StoreMemory). record (with_member s (without_slots m) k) { slots = without_asides m.aside k.slots }) c.self.view_is);
     }

@@ -7,7 +7,7 @@ use Rattle.disk_store.specs.Commits.{is_free}
 use Rattle.disk_store.specs.Memory.{StoreMemory, with_member}
 use Rattle.disk_store.proofs.Members.{lent-there, set-long}
 use Rattle.disk_store.proofs.Sound.{sound-member}
-use Rattle.disk_store.proofs.SlotsSound.{found-key, next-its, rechained-lessens, sound-rechained}
+use Rattle.disk_store.proofs.SlotsSound.{found-key, next-its, rechained-lessens, slots-passed, sound-rechained}
 use Rattle.disk_store.proofs.CommitsKept.{free-kept}
 use Rattle.disk_store.proofs.held.Held.pass_next.Goals as goal
 
@@ -26,7 +26,7 @@ invariant_of-self c =
     let n : Member = pushed_more c.set_chain.new.self m in (
       set-long i.members.items s n ∙ c.self.invariant.0,
       sound-member h s m n is c.self.invariant.1
-          (sound-rechained h.tables m c.set_chain.new.self key 0 its found.0 found.1 rechains n refl refl c.keys-keys.ensures.its (subst (λ (ks : List Dbkey). length ks < 2 ^ 32) c.keys-keys.ensures.value c.keys-keys.ensures.few))
+          (sound-rechained h.tables m c.set_chain.new.self key 0 its found.0 found.1 rechains n refl refl c.keys-keys.ensures.its (subst (λ (ks : List Dbkey). length ks < 2 ^ 32) c.keys-keys.ensures.value c.keys-keys.ensures.few) (slots-passed h.tables m key next.1 its.slots))
           (rechained-lessens h.tables m c.set_chain.new.self key 0 its found.0 found.1 rechains n refl (λ file. omega arith)),
       free-kept h s m n c.requires.member is (ap is_free next.0) c.self.invariant.2,
     )
@@ -42,5 +42,6 @@ returns c =
       was = ap (λ (k : StoreMemory). slice_get k.members s) (sym c.self.view_is) ∙ is;
       written = c.set_chain.new.self;
       rechains = record { line = c.set_chain.ensures.found; same = c.set_chain.ensures.same; keys = c.set_chain.ensures.keys };
+      never = c.requires.never;
       is = ap (λ (k : StoreMemory). with_member s (pushed_more c.set_chain.new.self m) k) c.self.view_is;
     }

@@ -21,7 +21,7 @@ invariant_of-self c =
     let n : Member = record m { stage = stage.Prepared; classes = c.args.classes } in
     let got = ap (λ (k : StoreMemory). slice_get k.members s) (sym c.self.view_is) ∙ is in (
       set-long i.members.items s n ∙ c.self.invariant.0,
-      sound-member h s m n is sound (sound-as h.tables m n refl refl (sound.each s m is)) (keeps-lines m n refl refl),
+      sound-member h s m n is sound (sound-as h.tables m n refl refl refl refl (sound.each s m is)) (keeps-lines m n refl refl),
       prepared-kept h s m n c.requires.member is (λ t x at. (sound.each t x at).keys) refl refl
           (subst (λ (k : StoreMemory). AreOfPages k.tables m.written.lines c.args.classes.items) (sym c.self.view_is) (c.requires.classes m got)) (subst (λ (k : StoreMemory). HasRoomFor k s m) (sym c.self.view_is) (c.requires.room m got)) c.self.invariant.2,
     )

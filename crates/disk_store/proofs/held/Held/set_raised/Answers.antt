@@ -20,7 +20,7 @@ invariant_of-self c =
     let h : StoreMemory = record { limits = i.limits; numbers = i.numbers; next = i.next; tables = i.tables; slots = i.slots; members = i.members.items } in
     let sound : IsSound h = c.self.invariant.1 in
     let n : Member = at_stage (stage.Beginning Raised) m in
-    (set-long i.members.items s n ∙ c.self.invariant.0, sound-with h s m n is sound (sound-as h.tables m n refl refl (sound.each s m is)) (keeps-lines m n refl refl) (raised_to c.args.ceiling i.numbers) sound.first sound.last (record { limited = sound.allowed.limited; applied = sound.allowed.applied; written = c.requires.allowed }), numbers-kept (with_member s n h) (raised_to c.args.ceiling i.numbers) (free-kept h s m n c.requires.member is refl c.self.invariant.2))
+    (set-long i.members.items s n ∙ c.self.invariant.0, sound-with h s m n is sound (sound-as h.tables m n refl refl refl refl (sound.each s m is)) (keeps-lines m n refl refl) (raised_to c.args.ceiling i.numbers) sound.first sound.last (record { limited = sound.allowed.limited; applied = sound.allowed.applied; written = c.requires.allowed }), numbers-kept (with_member s n h) (raised_to c.args.ceiling i.numbers) (free-kept h s m n c.requires.member is refl c.self.invariant.2))
 
 pub returns-clause-comes : goal.returns-clause-comes
 returns-clause-comes c =

@@ -19,7 +19,7 @@ invariant_of-self c =
     let h : StoreMemory = record { limits = i.limits; numbers = i.numbers; next = i.next; tables = i.tables; slots = i.slots; members = i.members.items } in
     let sound : IsSound h = c.self.invariant.1 in
     let n : Member = at_stage (stage.Committing c.args.next) m in
-    (set-long i.members.items s n ∙ c.self.invariant.0, sound-member h s m n is sound (sound-as h.tables m n refl refl (sound.each s m is)) (keeps-lines m n refl refl), turned-kept h s m n c.requires.member is (c.requires.commits.0) (subst (λ (k : StoreMemory). IsAtStage k.members s (stage.Committing c.requires.commits.0)) (sym c.self.view_is) c.requires.commits.1) c.args.next refl refl refl (c.requires.some m (ap (λ (k : StoreMemory). slice_get k.members s) (sym c.self.view_is) ∙ is)) c.self.invariant.2)
+    (set-long i.members.items s n ∙ c.self.invariant.0, sound-member h s m n is sound (sound-as h.tables m n refl refl refl refl (sound.each s m is)) (keeps-lines m n refl refl), turned-kept h s m n c.requires.member is (c.requires.commits.0) (subst (λ (k : StoreMemory). IsAtStage k.members s (stage.Committing c.requires.commits.0)) (sym c.self.view_is) c.requires.commits.1) c.args.next refl refl refl (c.requires.some m (ap (λ (k : StoreMemory). slice_get k.members s) (sym c.self.view_is) ∙ is)) c.self.invariant.2)
 
 pub returns-clause-comes : goal.returns-clause-comes
 returns-clause-comes c =

@@ -1,5 +1,5 @@
 use Rattle.std.proofs.Common.{◌-◌, ◌∙◌, List, ap, slice_set}
-use Rattle.line_arms.specs.declared.allotment.Allotment.{Allotment}
+use Rattle.lent_members.specs.line_arms.declared.allotment.Allotment.{Allotment}
 use Rattle.lent_members.proofs.Places.{set-set}
 use Rattle.line_cluster.proofs.allotments.Allotments.take.Goals as goal
 

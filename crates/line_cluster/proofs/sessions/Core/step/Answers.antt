@@ -8,7 +8,7 @@ use Rattle.rdb_drive.specs.Boards.{Less}
 use Rattle.stage_steps.specs.declared.happening.Happening.{Happening}
 use Rattle.stage_steps.specs.Happenings.{events_of, handed_back}
 use Rattle.stage_steps.specs.Scenes.{Scene, NearerIn, beside, scene}
-use Rattle.line_arms.specs.declared.allotment.Allotment.{Allotment}
+use Rattle.lent_members.specs.line_arms.declared.allotment.Allotment.{Allotment}
 use Rattle.line_cluster.specs.declared.behind.Behind.{Behind}
 use Rattle.line_cluster.specs.Behind.{halt_behind}
 use Rattle.line_cluster.specs.Deaths.{device_deaths, failures, faults_in, faults_of}

@@ -1,0 +1,5 @@
+pub use Rattle.reader_lines.proofs as reader_lines
+pub mod Runs
+pub mod Reading
+pub mod Counting
+pub mod Falling

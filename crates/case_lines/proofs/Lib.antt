@@ -1,2 +1,0 @@
-pub mod RoomPages
-pub mod Growing

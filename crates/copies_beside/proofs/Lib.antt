@@ -1,0 +1,4 @@
+pub mod Files
+pub mod Ledgers
+pub mod Shelves
+pub mod Readers

@@ -1,0 +1,26 @@
+// What a store shows behind calls that write a backup.
+ghost use Rattle.std.specs.Prelude.{ℕ};
+ghost use Rattle.backup_steps.specs.backup_making.Making.{file_of};
+ghost use Rattle.backup_steps.specs.Beside.{IsBeside};
+ghost use Rattle.line_store.specs.Calls.{Moves};
+ghost use Rattle.line_store.specs.Shelves.{Shelf};
+ghost use Rattle.line_store.specs.Sights.{Does};
+ghost use Rattle.disk_store.specs.Seats.{stand_at};
+ghost use Rattle.disk_store.specs.Shown.{Shown, sight_of};
+ghost use Rattle.copies_beside.specs.Moved.{moved_on};
+
+use disk_store::Held;
+use rdb_outside::Disk;
+
+/// Calls that write a backup alone, as a step of its copying does, keep each shelf that a store shows, with the clock moved on.
+pub fn a_store_is_shown_beside<D: Disk>(before: &D, after: &D, held: &Held)
+    ensures shown { (number : ℕ) → IsBeside (file_of number) (D.view before.now) (D.view after.now)
+        → (h : Shelf) → Shown (D.view before.now) held.now h
+        → Shown (D.view after.now) held.now (moved_on (D.view after.now) held.now h) }
+
+    // In the words of the trait of stores it is a step of any session that changes nothing; what a crash leaves meanwhile stands, and can be opened.
+    ensures does { (number session : ℕ) → IsBeside (file_of number) (D.view before.now) (D.view after.now)
+        → Does session (stand_at held.now.members session)
+        (λ h k. Moves session (h.seat session) h k)
+        (sight_of (D.view before.now) held.now) (sight_of (D.view after.now) held.now) }
+{}

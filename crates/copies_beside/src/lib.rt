@@ -1,0 +1,8 @@
+//! What a store on a disk shows while a backup is made beside it, and what it gives to the steps of that backup: laws alone.
+#![tactic(auto)]
+
+mod laws;
+mod reading;
+
+pub use laws::a_store_is_shown_beside;
+pub use reading::a_reader_may_be_copied;

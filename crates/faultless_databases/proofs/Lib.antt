@@ -1,0 +1,9 @@
+pub mod Alike
+pub mod Areas
+pub mod Definitions
+pub mod Indexes
+pub mod Pages
+pub mod Rows
+pub mod Standing
+pub mod Taken
+pub mod Whole

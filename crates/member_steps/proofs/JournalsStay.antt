@@ -1,0 +1,18 @@
+-- A device call that writes no before-image journal.
+use Rattle.std.proofs.Common.{◌≡◌, ◌≢◌, ◌⊎◌, inl, inr, ◌+◌, ℕ, IsTrue, sym, ap, ◌∙◌}
+use Rattle.rdb_types.specs.declared.file.FileId.{FileId}
+use Rattle.rdb_types.specs.declared.file.FileKind.TheVariants.{Aij, Area, Ruj}
+use Rattle.rdb_outside.specs.Disk.{View}
+use Rattle.area_files.specs.Areas.{IsDataPage}
+use Rattle.stable_lines.specs.Slots.{area_file, ruj_file}
+use Rattle.line_moves.specs.Calls.{OnlyWrites}
+
+pub journals_beside : (v w : View) (file : FileId) (slot : ℕ) → IsTrue v.tells → file.kind ≢ Ruj → OnlyWrites file slot v w → (member i : ℕ) → w.content (ruj_file member) i ≡ v.content (ruj_file member) i
+journals_beside v w file slot t other only member i = only.content t (ruj_file member) i (λ same at. other (ap (λ (f : FileId). f.kind) (sym same)))
+
+-- a page or the after-image journal is written
+pub no_journal : (file : FileId) (slot : ℕ) → ((n : ℕ) × (file ≡ area_file n) × IsDataPage (slot + 1)) ⊎ (file.kind ≡ Aij) → file.kind ≢ Ruj
+no_journal file slot is bad = elim is [
+  | inl area ↦ let k : Area ≡ Ruj = sym (ap (λ (f : FileId). f.kind) area.1) ∙ bad in cc
+  | inr aij ↦ let k : Aij ≡ Ruj = sym aij ∙ bad in cc
+]

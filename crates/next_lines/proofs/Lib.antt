@@ -1,0 +1,2 @@
+pub use Rattle.partial_backup.proofs as partial_backup
+pub mod Leading

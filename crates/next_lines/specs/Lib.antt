@@ -1,0 +1,3 @@
+pub use Rattle.partial_backup.specs as partial_backup
+pub mod Areas
+pub mod Next
