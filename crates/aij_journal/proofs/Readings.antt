@@ -1,6 +1,6 @@
 -- The bytes of a slot determine what it is.
 use Rattle.std.proofs.Common.{◌≡◌, ap, ℕ, List, length, Option, Some, None}
-use Rattle.slot_fields.specs.Fields.{HasFrom}
+use Rattle.rdb_page.specs.slot_fields.Fields.{HasFrom}
 use Rattle.rdb_page.proofs.States.{one_state}
 use Rattle.aij_journal.specs.declared.part.GroupLine.{GroupLine}
 use Rattle.aij_journal.specs.declared.part.AijPart.{AijPart}

@@ -1,12 +1,12 @@
 -- The phase of a session whose job is out, by the job and what the session has beside it.
 use Rattle.session_jobs.specs.declared.jobs.Job.{Job}
-use Rattle.session_states.specs.declared.stage.Phase.{Phase}
-use Rattle.session_states.specs.declared.stage.Phase.TheVariants as phase
-use Rattle.session_states.specs.declared.stage.Work.TheVariants as work
-use Rattle.session_states.specs.declared.stage.Stage.TheVariants as stage
-use Rattle.session_states.specs.declared.stage.ReaderWork.TheVariants as look
-use Rattle.session_states.specs.declared.stage.ReaderStage.TheVariants as reading
-use Rattle.session_states.specs.States.{writer, reader}
+use Rattle.job_steps.specs.session_states.declared.stage.Phase.{Phase}
+use Rattle.job_steps.specs.session_states.declared.stage.Phase.TheVariants as phase
+use Rattle.job_steps.specs.session_states.declared.stage.Work.TheVariants as work
+use Rattle.job_steps.specs.session_states.declared.stage.Stage.TheVariants as stage
+use Rattle.job_steps.specs.session_states.declared.stage.ReaderWork.TheVariants as look
+use Rattle.job_steps.specs.session_states.declared.stage.ReaderStage.TheVariants as reading
+use Rattle.job_steps.specs.session_states.States.{writer, reader}
 use Rattle.answered_steps.specs.declared.answered.Absence.{Absence}
 use Rattle.answered_steps.specs.declared.answered.Absence.TheVariants.{Writing, Reading}
 

@@ -1,17 +1,17 @@
 //! A statement whose job was worked outside the lock: what it came to is taken.
 ghost use Rattle.std.specs.Prelude.{◌≡◌, ℕ};
 ghost use Rattle.line_store.specs.Seats.{IsMember};
-ghost use Rattle.session_stands.specs.Seated.{IsSeated};
-ghost use Rattle.session_measure.specs.Nearer.{AreRounds};
-ghost use Rattle.stage_steps.specs.Scenes.{ComesIn, scene};
+ghost use Rattle.job_steps.specs.session_stands.Seated.{IsSeated};
+ghost use Rattle.job_steps.specs.session_measure.Nearer.{AreRounds};
+ghost use Rattle.job_steps.specs.stage_steps.Scenes.{ComesIn, scene};
 ghost use Rattle.answered_steps.specs.Absences.{phase_with};
 
+use job_steps::stage_steps::{Common, ReaderTerms, Terms, Turned, take_found_reading};
 use job_steps::take_found;
 use lent_jobs::WorkedJob;
 use line_store::LineStore;
 use rdb_types::Session;
 use reserved_locks::Reserves;
-use stage_steps::{Common, ReaderTerms, Terms, Turned, take_found_reading};
 
 /// What a transaction has beside the job of its statement, while that is out.
 #[derive(Clone, Copy)]

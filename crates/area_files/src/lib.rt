@@ -5,7 +5,9 @@ ghost use Rattle.std.specs.Prelude.{◌≡◌, ◌≤◌, ◌<◌, ◌-◌, ◌�
 ghost use Rattle.rdb_page.specs.Page.{IsOwner};
 ghost use Rattle.area_files.specs.Areas.{IsPage, IsDataPage, IsSpacePage, IsNextPage, space_page_of as space_of, entry_of};
 
-use rdb_types::Limits;
+pub use rdb_page;
+use rdb_page::rdb_types::Limits;
+pub use rdb_page::slot_fields;
 
 /// Where the entry of a page stands: the number of its space page, and the entry's place among those there, counted from 0.
 #[derive(Clone, Copy, Debug, PartialEq, Eq)]

@@ -1,4 +1,4 @@
-pub use Rattle.reader_lines.proofs as reader_lines
+pub use Rattle.reader_lines.proofs as of_reader_lines
 pub mod Runs
 pub mod Reading
 pub mod Counting

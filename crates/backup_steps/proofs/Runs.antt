@@ -7,7 +7,7 @@ use Rattle.line_view.specs.Knowledge.{Lines}
 use Rattle.backup_making.specs.Making.{file_of, Former, Steps}
 use Rattle.next_lines.specs.partial_backup.declared.copying.Copying.{Copying}
 use Rattle.next_lines.specs.partial_backup.Partial.{IsCopying, IsUntouched}
-use Rattle.next_lines.proofs.partial_backup.Standing.{untouched}
+use Rattle.next_lines.proofs.of_partial_backup.Standing.{untouched}
 use Rattle.backup_steps.specs.Beside.{IsBeside}
 
 pub still_tells : (old new : View) → new.tells ≡ old.tells → IsTrue old.tells → IsTrue new.tells

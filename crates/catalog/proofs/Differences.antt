@@ -11,9 +11,9 @@ use Rattle.std.proofs.lemmas.Bool.Decides.{nat_tests}
 use Rattle.rdb_types.specs.declared.keys.Dbkey.{Dbkey}
 use Rattle.rdb_types.specs.Order.{dbkey_order, chars_order}
 use Rattle.rdb_types.specs.OrderLaws.{same_dbkey}
-use Rattle.rdb_meaning.specs.declared.tables.Tables.{Tables}
-use Rattle.rdb_meaning.specs.Contents.{relation_named, fields_of}
-use Rattle.rdb_meaning.specs.Execution.{area_of}
+use Rattle.rdb_definitions.specs.rdb_meaning.declared.tables.Tables.{Tables}
+use Rattle.rdb_definitions.specs.rdb_meaning.Contents.{relation_named, fields_of}
+use Rattle.rdb_definitions.specs.rdb_meaning.Execution.{area_of}
 use Rattle.catalog_lines.specs.declared.line.RelationLine.{RelationLine}
 use Rattle.catalog_lines.specs.declared.line.FieldLine.{FieldLine}
 use Rattle.catalog_lines.specs.declared.line.IndexLine.{IndexLine}

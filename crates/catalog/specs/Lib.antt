@@ -1,3 +1,4 @@
+pub use Rattle.catalog_lines.specs as catalog_lines
 pub mod Directory
 pub mod Schema
 pub mod Reading

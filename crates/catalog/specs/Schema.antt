@@ -6,10 +6,10 @@ use Rattle.std.specs.FinMap.Entries.{find, put}
 use Rattle.rdb_types.specs.declared.keys.Dbkey.{Dbkey}
 use Rattle.rdb_types.specs.declared.values.Field.{Field}
 use Rattle.rdb_types.specs.Order.{dbkey_order, chars_order}
-use Rattle.rdb_meaning.specs.declared.tables.Tables.{Tables}
-use Rattle.rdb_meaning.specs.declared.tables.Index.{Index as IndexOf}
-use Rattle.rdb_meaning.specs.Contents.{same_name, no_tables, relation_named, fields_of}
-use Rattle.rdb_meaning.specs.Execution.{area_of}
+use Rattle.rdb_definitions.specs.rdb_meaning.declared.tables.Tables.{Tables}
+use Rattle.rdb_definitions.specs.rdb_meaning.declared.tables.Index.{Index as IndexOf}
+use Rattle.rdb_definitions.specs.rdb_meaning.Contents.{same_name, no_tables, relation_named, fields_of}
+use Rattle.rdb_definitions.specs.rdb_meaning.Execution.{area_of}
 use Rattle.catalog_lines.specs.declared.line.RelationLine.{RelationLine}
 use Rattle.catalog_lines.specs.declared.line.GlobalLine.{GlobalLine}
 use Rattle.catalog_lines.specs.declared.line.FieldLine.{FieldLine}

@@ -1,20 +1,20 @@
 // The lines that deletions erase.
 ghost use Rattle.std.specs.Prelude.{◌≡◌, IfOk};
 ghost use Rattle.std.specs.FinMap.Entries.{find};
-ghost use Rattle.rdb_meaning.specs.Contents.{relation_named};
+ghost use Rattle.rdb_definitions.specs.rdb_meaning.Contents.{relation_named};
 ghost use Rattle.rdb_types.specs.Order.{chars_order};
-ghost use Rattle.rdb_meaning.specs.Checks.{needs_some};
-ghost use Rattle.rdb_meaning.specs.Execution.{area_of};
-ghost use Rattle.rdb_checks.specs.Answers.{Finds};
+ghost use Rattle.rdb_definitions.specs.rdb_meaning.Checks.{needs_some};
+ghost use Rattle.rdb_definitions.specs.rdb_meaning.Execution.{area_of};
+ghost use Rattle.rdb_definitions.specs.rdb_checks.Answers.{Finds};
 ghost use Rattle.catalog.specs.Deletions.{is_of_relation, is_index_named, keys_where};
 
 use crate::Catalog;
 use crate::directory::PlacedLine;
 use crate::schema::area_named;
 use catalog_lines::CatalogLine;
-use rdb_checks::Stop;
+use rdb_definitions::rdb_checks::Stop;
+use rdb_definitions::rdb_meaning::same_name;
 use rdb_definitions::{check_index_exists, check_relation_exists};
-use rdb_meaning::same_name;
 use rdb_types::{Chars, Keys, NoMemory};
 use std::alloc::Global;
 

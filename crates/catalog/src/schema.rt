@@ -2,19 +2,19 @@
 ghost use Rattle.std.specs.Prelude.{◌≡◌, List, None, nat_eq, OnOk, IfOk};
 ghost use Rattle.std.specs.List.{list_any, list_all};
 ghost use Rattle.std.specs.FinMap.Entries.{find};
-ghost use Rattle.rdb_meaning.specs.Contents.{relation_named, fields_of as fields_of_relation};
+ghost use Rattle.rdb_definitions.specs.rdb_meaning.Contents.{relation_named, fields_of as fields_of_relation};
 ghost use Rattle.rdb_types.specs.Order.{chars_order};
-ghost use Rattle.rdb_meaning.specs.Execution.{area_of};
+ghost use Rattle.rdb_definitions.specs.rdb_meaning.Execution.{area_of};
 ghost use Rattle.catalog.specs.Directory.{directory};
 ghost use Rattle.catalog.specs.Schema.{fields_from, relation_fields, with_thing, tables_from, differ, same_field, index_area, has_field, relation_stands, global_stands, field_stands, index_stands, stands, misfit_from, misfit as misfit_of};
 ghost use Rattle.catalog.specs.Differences.{Differ};
 ghost use Rattle.catalog.specs.declared.directory.PlacedLine.{PlacedLine};
-ghost use Rattle.rdb_meaning.specs.Contents.{no_tables};
+ghost use Rattle.rdb_definitions.specs.rdb_meaning.Contents.{no_tables};
 
 use crate::directory::{Directory, PlacedLine};
 use catalog_lines::{CatalogLine, FieldLine, GlobalLine, IndexLine, RelationLine};
 use ordered_entries::Entries;
-use rdb_meaning::{Index, Relation, Tables, same_name};
+use rdb_definitions::rdb_meaning::{Index, Relation, Tables, same_name};
 use rdb_types::{Chars, Copied, Dbkey, Field, Fields, NoMemory};
 use std::alloc::Global;
 

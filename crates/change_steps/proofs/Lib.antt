@@ -1,3 +1,4 @@
+pub use Rattle.disk_store.proofs as of_disk_store
 mod LeftTo
 mod SnapWritten
 mod Breaking

@@ -5,4 +5,5 @@ mod journalling;
 mod pushing;
 mod steps;
 
+pub use disk_store;
 pub use steps::{broken_step, change_step};

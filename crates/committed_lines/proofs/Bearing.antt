@@ -8,8 +8,8 @@ use Rattle.stable_lines.specs.Slots.{ruj_file, Undo, line_at, entry_at}
 use Rattle.stable_lines.specs.Progress.{Open}
 use Rattle.stable_lines.specs.Facts.{IsNotOpen}
 use Rattle.stable_lines.proofs.Turns.{some_same}
-use Rattle.disk_seats.specs.Ledgers.{Ledger}
-use Rattle.disk_seats.specs.Members.{LedgerFacts}
+use Rattle.member_steps.specs.disk_seats.Ledgers.{Ledger}
+use Rattle.member_steps.specs.disk_seats.Members.{LedgerFacts}
 use Rattle.member_steps.specs.Standing.{IsBefore}
 use Rattle.member_steps.proofs.Standings.{stands_changed}
 use Rattle.committed_lines.specs.Seen.{Seen, AreSeen}

@@ -15,8 +15,8 @@ use Rattle.line_moves.specs.declared.places.Place.{Place}
 use Rattle.line_moves.specs.Changes.{IsPlaceOf}
 use Rattle.line_moves.proofs.Putting.{HasPlace, place_says}
 use Rattle.line_moves.proofs.Reading.{owner_is, line_none}
-use Rattle.disk_seats.specs.Ledgers.{Ledger, progress_of}
-use Rattle.disk_seats.specs.Members.{LedgerFacts}
+use Rattle.member_steps.specs.disk_seats.Ledgers.{Ledger, progress_of}
+use Rattle.member_steps.specs.disk_seats.Members.{LedgerFacts}
 use Rattle.member_steps.proofs.ClassesHad.{is_area_file, is_data}
 use Rattle.member_steps.proofs.Standings.{same_lines}
 

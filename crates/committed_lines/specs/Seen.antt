@@ -4,7 +4,7 @@ use Rattle.rdb_types.specs.declared.keys.Dbkey.{Dbkey}
 use Rattle.rdb_types.specs.declared.keys.Tsn.{Tsn}
 use Rattle.stable_lines.specs.Slots.{Undo}
 use Rattle.stable_lines.specs.Progress.{Open}
-use Rattle.disk_seats.specs.Ledgers.{Ledger}
+use Rattle.member_steps.specs.disk_seats.Ledgers.{Ledger}
 
 -- the number of a transaction, and the keys of its before-images in their order
 pub record Seen : Type 0 where

@@ -9,8 +9,8 @@ ghost use Rattle.ruj_journal.specs.Entry.{IsEntry};
 ghost use Rattle.line_view.specs.Knowledge.{line_in};
 ghost use Rattle.line_versions.specs.Lines.{shown as shown_of};
 ghost use Rattle.stable_lines.specs.Slots.{ruj_file as journal_of};
-ghost use Rattle.disk_seats.specs.Ledgers.{Ledger};
-ghost use Rattle.disk_seats.specs.Members.{LedgerFacts};
+ghost use Rattle.member_steps.specs.disk_seats.Ledgers.{Ledger};
+ghost use Rattle.member_steps.specs.disk_seats.Members.{LedgerFacts};
 ghost use Rattle.committed_lines.specs.Seen.{AreSeen};
 
 use crate::seen::{HasBeforeImages, bearer};

@@ -13,7 +13,7 @@ use Rattle.rdb_page.specs.Page.{IsOwner, lines_of}
 use Rattle.line_view.specs.Knowledge.{Lines, line_in, laid}
 use Rattle.line_view.proofs.FullMap.{laid_found}
 use Rattle.line_view.proofs.Written.{same_line}
-use Rattle.line_moves.proofs.Putting.{nat_cases}
+use Rattle.page_table.proofs.of_line_moves.Putting.{nat_cases}
 use Rattle.page_table.specs.declared.uses.PageUse.{PageUse}
 use Rattle.page_table.specs.Pages.{Pages, empty_of, use_of, owner_in, class_in, state_in, is_present, has_image, IsLineOf, IsUsedLine, Puts, PutsLine}
 use Rattle.page_table.proofs.Said.{none_has}

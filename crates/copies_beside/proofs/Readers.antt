@@ -14,7 +14,7 @@ use Rattle.stable_lines.specs.Slots.{IsAreaFile}
 use Rattle.line_moves.proofs.Putting.{nat_cases}
 use Rattle.backup_steps.specs.next_lines.Next.{AreClasses, WasUsed}
 use Rattle.backup_steps.specs.reader_lines.Readers.{IsReader}
-use Rattle.backup_steps.proofs.reader_lines.Unseen.{unseen_nowhere}
+use Rattle.backup_steps.proofs.of_reader_lines.Unseen.{unseen_nowhere}
 use Rattle.disk_store.specs.declared.held.Tables.{Tables}
 use Rattle.disk_store.specs.declared.member.Member.{Member}
 use Rattle.disk_store.specs.declared.member.MemberStage.{MemberStage}

@@ -3,14 +3,14 @@ use Rattle.std.proofs.Common.{◌≡◌, ℕ, List, map, Option, IsTrue, ◌⊎�
 use Rattle.rdb_outside.specs.Disk.{View, Pending, IsStable, OnlyReads}
 use Rattle.root_file.specs.declared.Root.{Root}
 use Rattle.root_file.proofs.Readings.{one_root}
-use Rattle.new_database.specs.Maker.{root_file}
+use Rattle.line_opening.specs.new_database.Maker.{root_file}
 use Rattle.line_view.specs.Knowledge.{Lines}
-use Rattle.stable_lines.specs.Journal.{Journal}
-use Rattle.stable_lines.specs.Kept.{Kept}
-use Rattle.stable_lines.specs.Progress.{Open}
-use Rattle.stable_lines.specs.Facts.{Facts}
-use Rattle.stable_lines.specs.Opening.{found}
-use Rattle.stable_lines.proofs.Opening.{opens}
+use Rattle.line_opening.specs.stable_lines.Journal.{Journal}
+use Rattle.line_opening.specs.stable_lines.Kept.{Kept}
+use Rattle.line_opening.specs.stable_lines.Progress.{Open}
+use Rattle.line_opening.specs.stable_lines.Facts.{Facts}
+use Rattle.line_opening.specs.stable_lines.Opening.{found}
+use Rattle.line_opening.proofs.of_stable_lines.Opening.{opens}
 use Rattle.line_opening.specs.Headers.{number_of, AreNamed, open_in}
 use Rattle.line_opening.specs.Passing.{IsNext}
 use Rattle.line_opening.specs.declared.groups.NextGroup.{NextGroup}

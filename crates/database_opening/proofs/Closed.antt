@@ -2,12 +2,12 @@
 use Rattle.std.proofs.Common.{ℕ, ◌≤◌, ◌<◌, Option, None, IsTrue, refl, sym, ◌∙◌, ap, subst, arith}
 use Rattle.rdb_outside.specs.Disk.{Image, View, LeftNow, Pending, IsStable, OnlyReads}
 use Rattle.line_view.specs.Knowledge.{Lines}
-use Rattle.stable_lines.specs.Slots.{ruj_file, named}
-use Rattle.stable_lines.specs.Journal.{Journal}
-use Rattle.stable_lines.specs.Progress.{Open}
-use Rattle.stable_lines.specs.Facts.{Facts}
-use Rattle.stable_lines.specs.Opening.{found}
-use Rattle.line_moves.proofs.Runs.{pends, facts_read}
+use Rattle.line_opening.specs.stable_lines.Slots.{ruj_file, named}
+use Rattle.line_opening.specs.stable_lines.Journal.{Journal}
+use Rattle.line_opening.specs.stable_lines.Progress.{Open}
+use Rattle.line_opening.specs.stable_lines.Facts.{Facts}
+use Rattle.line_opening.specs.stable_lines.Opening.{found}
+use Rattle.line_opening.proofs.of_line_moves.Runs.{pends, facts_read}
 use Rattle.line_opening.specs.Headers.{AreClosed}
 use Rattle.line_opening.specs.Undoing.{AreUndone}
 use Rattle.line_opening.proofs.Passed.{image_same}

@@ -3,8 +3,8 @@ use Rattle.std.proofs.Common.{◌⊎◌, inl, inr, ℕ, IsTrue}
 use Rattle.rdb_outside.specs.Disk.{Image, View, LeavesOnly, IsPending, OnlyReads}
 use Rattle.rdb_outside.specs.Moments.{weaker}
 use Rattle.line_view.specs.Knowledge.{Lines}
-use Rattle.stable_lines.specs.Journal.{Journal}
-use Rattle.stable_lines.specs.Kept.{Kept}
+use Rattle.line_opening.specs.stable_lines.Journal.{Journal}
+use Rattle.line_opening.specs.stable_lines.Kept.{Kept}
 use Rattle.line_opening.proofs.Standing.{leaves_on}
 
 -- what a crash may leave of a whole opening

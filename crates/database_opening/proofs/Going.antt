@@ -3,11 +3,11 @@ use Rattle.std.proofs.Common.{◌≡◌, ℕ, zero, suc, ◌-◌, ◌≤◌, ◌
 use Rattle.std.proofs.lemmas.List.{get_or-map}
 use Rattle.rdb_outside.specs.Disk.{Image, View, Pending, IsStable}
 use Rattle.journal_scan.specs.declared.group.Group.{Group}
-use Rattle.stable_lines.specs.Slots.{ruj_file, IsMember, named}
-use Rattle.stable_lines.specs.Journal.{has_group}
-use Rattle.stable_lines.specs.Progress.{Open}
-use Rattle.stable_lines.specs.Opening.{IsFound}
-use Rattle.stable_lines.specs.Steps.{NamesNone}
+use Rattle.line_opening.specs.stable_lines.Slots.{ruj_file, IsMember, named}
+use Rattle.line_opening.specs.stable_lines.Journal.{has_group}
+use Rattle.line_opening.specs.stable_lines.Progress.{Open}
+use Rattle.line_opening.specs.stable_lines.Opening.{IsFound}
+use Rattle.line_opening.specs.stable_lines.Steps.{NamesNone}
 use Rattle.line_opening.specs.Headers.{number_of, AreNamed, open_in}
 use Rattle.database_opening.specs.Reading.{AreCounted, AreKnown}
 

@@ -1,3 +1,6 @@
+pub use Rattle.line_opening.proofs.of_line_moves as of_line_moves
+pub use Rattle.line_opening.proofs as of_line_opening
+pub use Rattle.line_opening.proofs.of_stable_lines as of_stable_lines
 pub mod Going
 pub mod Counts
 pub mod Begun

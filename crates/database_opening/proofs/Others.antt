@@ -4,8 +4,8 @@ use Rattle.rdb_types.specs.declared.file.FileId.{FileId}
 use Rattle.rdb_outside.specs.Disk.{Image, View, Pending, IsPending, OnlyReads}
 use Rattle.rdb_outside.specs.Moments.{weaker}
 use Rattle.rdb_outside.specs.Runs.{no_calls}
-use Rattle.stable_lines.specs.Slots.{area_file, ruj_file}
-use Rattle.line_moves.specs.Calls.{OnlyWrites}
+use Rattle.line_opening.specs.stable_lines.Slots.{area_file, ruj_file}
+use Rattle.line_opening.specs.line_moves.Calls.{OnlyWrites}
 use Rattle.line_opening.proofs.Standing.{leaves_on}
 use Rattle.database_opening.specs.Others.{IsOther, KeepsFile}
 

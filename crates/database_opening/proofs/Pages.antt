@@ -4,12 +4,12 @@ use Rattle.rdb_types.specs.declared.file.FileId.{FileId}
 use Rattle.rdb_types.specs.declared.file.FileKind.TheVariants.{Root, Area, Ruj}
 use Rattle.rdb_outside.specs.Disk.{Image, View, LeftNow, Pending, IsStable, OnlyReads}
 use Rattle.area_files.specs.Areas.{IsDataPage}
-use Rattle.new_database.specs.Maker.{root_file}
-use Rattle.stable_lines.specs.Slots.{area_file, ruj_file}
-use Rattle.line_moves.specs.Calls.{OnlyWrites}
-use Rattle.line_moves.specs.Classes.{HasItsClass, HaveTheirClasses, IsClassed}
-use Rattle.line_moves.proofs.PageClasses.{classes_beside as classes_aside}
-use Rattle.line_moves.proofs.Runs.{pends}
+use Rattle.line_opening.specs.new_database.Maker.{root_file}
+use Rattle.line_opening.specs.stable_lines.Slots.{area_file, ruj_file}
+use Rattle.line_opening.specs.line_moves.Calls.{OnlyWrites}
+use Rattle.line_opening.specs.line_moves.Classes.{HasItsClass, HaveTheirClasses, IsClassed}
+use Rattle.line_opening.proofs.of_line_moves.PageClasses.{classes_beside as classes_aside}
+use Rattle.line_opening.proofs.of_line_moves.Runs.{pends}
 use Rattle.database_opening.specs.Untouched.{KeepsRootAndSpaces}
 
 -- ---- nothing is written

@@ -4,11 +4,11 @@ use Rattle.std.proofs.lemmas.Bool.{eq-eqb}
 use Rattle.rdb_outside.specs.Disk.{Image}
 use Rattle.root_file.specs.declared.Root.{Root}
 use Rattle.line_view.specs.Knowledge.{Lines}
-use Rattle.stable_lines.specs.Journal.{Journal}
-use Rattle.stable_lines.specs.Progress.{Open}
-use Rattle.stable_lines.specs.Facts.{PendingContents, Only, Facts}
-use Rattle.stable_lines.specs.Opening.{found}
-use Rattle.stable_lines.proofs.Barrier.{lines_undone}
+use Rattle.line_opening.specs.stable_lines.Journal.{Journal}
+use Rattle.line_opening.specs.stable_lines.Progress.{Open}
+use Rattle.line_opening.specs.stable_lines.Facts.{PendingContents, Only, Facts}
+use Rattle.line_opening.specs.stable_lines.Opening.{found}
+use Rattle.line_opening.proofs.of_stable_lines.Barrier.{lines_undone}
 use Rattle.line_opening.specs.Undoing.{AreUndone}
 
 not_both : (b : Bool) → b ≡ true → b ≡ false → ⊥

@@ -7,12 +7,12 @@ use Rattle.rdb_types.specs.declared.keys.Tsn.{Tsn}
 use Rattle.rdb_outside.specs.Disk.{Image, View, Pending, LeavesOnly}
 use Rattle.rdb_outside.specs.Moments.{weaker}
 use Rattle.line_view.specs.Knowledge.{Lines}
-use Rattle.stable_lines.specs.Slots.{IsMember}
-use Rattle.stable_lines.specs.Journal.{Journal}
-use Rattle.stable_lines.specs.Kept.{Kept}
-use Rattle.stable_lines.specs.Progress.{Open, Progress}
-use Rattle.stable_lines.specs.Facts.{Facts, StandsAs, as_committed, with_former, with_flight}
-use Rattle.stable_lines.specs.Opening.{found}
+use Rattle.line_opening.specs.stable_lines.Slots.{IsMember}
+use Rattle.line_opening.specs.stable_lines.Journal.{Journal}
+use Rattle.line_opening.specs.stable_lines.Kept.{Kept}
+use Rattle.line_opening.specs.stable_lines.Progress.{Open, Progress}
+use Rattle.line_opening.specs.stable_lines.Facts.{Facts, StandsAs, as_committed, with_former, with_flight}
+use Rattle.line_opening.specs.stable_lines.Opening.{found}
 use Rattle.root_file.specs.declared.Root.{Root}
 use Rattle.line_opening.specs.Headers.{number_of}
 use Rattle.line_opening.specs.Undoing.{MayUndo, AreUndone}

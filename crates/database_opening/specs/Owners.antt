@@ -3,7 +3,7 @@ use Rattle.std.specs.Prelude.{ℕ, ◌-◌, ◌≤◌, ◌≡◌, List, length, 
 use Rattle.rdb_outside.specs.Disk.{Image}
 use Rattle.area_files.specs.Areas.{IsDataPage, space_page_of}
 use Rattle.space_pages.specs.Space.{owner_of}
-use Rattle.stable_lines.specs.Slots.{area_file}
+use Rattle.line_opening.specs.stable_lines.Slots.{area_file}
 
 -- the owner of a page by the space page that speaks of it
 abbrev pub owner_said : Image → ℕ → ℕ → ℕ

@@ -3,8 +3,8 @@ use Rattle.std.specs.Prelude.{ℕ, ◌≤◌, ◌≡◌, ◌⊎◌, List, length
 use Rattle.rdb_outside.specs.Disk.{Image}
 use Rattle.root_file.specs.declared.Root.{Root}
 use Rattle.root_file.specs.Root.{IsRoot}
-use Rattle.stable_lines.specs.Slots.{IsMember}
-use Rattle.stable_lines.specs.Progress.{Open}
+use Rattle.line_opening.specs.stable_lines.Slots.{IsMember}
+use Rattle.line_opening.specs.stable_lines.Progress.{Open}
 use Rattle.line_opening.specs.Headers.{number_of}
 use Rattle.line_opening.specs.Counting.{HasCount}
 

@@ -3,12 +3,12 @@ use Rattle.std.specs.Prelude.{ℕ, ◌+◌, ◌-◌, ◌≤◌, ◌<◌, ◌≡�
 use Rattle.std.specs.List.{sum}
 use Rattle.rdb_outside.specs.Disk.{View, Pending}
 use Rattle.line_view.specs.Knowledge.{Lines}
-use Rattle.stable_lines.specs.Slots.{IsMember}
-use Rattle.stable_lines.specs.Journal.{Journal}
-use Rattle.stable_lines.specs.Progress.{Open}
-use Rattle.stable_lines.specs.Facts.{Facts}
-use Rattle.stable_lines.specs.Steps.{NamesNone}
-use Rattle.stable_lines.specs.Opening.{found}
+use Rattle.line_opening.specs.stable_lines.Slots.{IsMember}
+use Rattle.line_opening.specs.stable_lines.Journal.{Journal}
+use Rattle.line_opening.specs.stable_lines.Progress.{Open}
+use Rattle.line_opening.specs.stable_lines.Facts.{Facts}
+use Rattle.line_opening.specs.stable_lines.Steps.{NamesNone}
+use Rattle.line_opening.specs.stable_lines.Opening.{found}
 use Rattle.line_opening.specs.Headers.{AreClosed}
 use Rattle.line_opening.specs.Passing.{IsNext}
 use Rattle.line_opening.specs.Undoing.{AreUndone}

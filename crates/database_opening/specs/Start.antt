@@ -2,11 +2,11 @@
 use Rattle.std.specs.Prelude.{ℕ, ◌∷◌, [], None}
 use Rattle.rdb_outside.specs.Disk.{View, Pending}
 use Rattle.line_view.specs.Knowledge.{Lines}
-use Rattle.stable_lines.specs.Journal.{Journal}
-use Rattle.stable_lines.specs.Progress.{Progress}
-use Rattle.stable_lines.specs.Facts.{Facts}
-use Rattle.stable_lines.specs.History.{History}
-use Rattle.stable_lines.specs.Steps.{NamesNone}
+use Rattle.line_opening.specs.stable_lines.Journal.{Journal}
+use Rattle.line_opening.specs.stable_lines.Progress.{Progress}
+use Rattle.line_opening.specs.stable_lines.Facts.{Facts}
+use Rattle.line_opening.specs.stable_lines.History.{History}
+use Rattle.line_opening.specs.stable_lines.Steps.{NamesNone}
 use Rattle.line_opening.specs.Passing.{IsNext}
 use Rattle.database_opening.specs.declared.start.StoreStart.{StoreStart}
 

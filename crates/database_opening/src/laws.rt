@@ -3,10 +3,10 @@ ghost use Rattle.std.specs.Prelude.{ℕ, List, IsTrue};
 ghost use Rattle.rdb_outside.specs.Disk.{Pending};
 ghost use Rattle.rdb_outside.specs.Moments.{Since};
 ghost use Rattle.line_view.specs.Knowledge.{Lines};
-ghost use Rattle.stable_lines.specs.Journal.{Journal};
-ghost use Rattle.stable_lines.specs.Progress.{Progress};
-ghost use Rattle.stable_lines.specs.Facts.{Facts, StandsAs};
-ghost use Rattle.stable_lines.specs.History.{IsAt, StandsFrom};
+ghost use Rattle.line_opening.specs.stable_lines.Journal.{Journal};
+ghost use Rattle.line_opening.specs.stable_lines.Progress.{Progress};
+ghost use Rattle.line_opening.specs.stable_lines.Facts.{Facts, StandsAs};
+ghost use Rattle.line_opening.specs.stable_lines.History.{IsAt, StandsFrom};
 ghost use Rattle.database_opening.specs.Start.{IsStart, beginning_with, history_with};
 
 use rdb_outside::Disk;

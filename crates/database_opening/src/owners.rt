@@ -5,12 +5,12 @@ ghost use Rattle.rdb_outside.specs.Causes.{Rose};
 ghost use Rattle.rdb_outside.specs.Disk.{OnlyReads};
 ghost use Rattle.area_files.specs.Areas.{IsPage, IsSpacePage, IsDataPage};
 ghost use Rattle.space_pages.specs.Space.{IsSpace, owner_of};
-ghost use Rattle.stable_lines.specs.Slots.{area_file as area_named, IsAreaFile};
+ghost use Rattle.line_opening.specs.stable_lines.Slots.{area_file as area_named, IsAreaFile};
 ghost use Rattle.database_opening.specs.Owners.{AreOwners};
 
 use area_files::{is_space_page, slot_of};
-use line_moves::area_file;
 use line_opening::OpeningFault;
+use line_opening::line_moves::area_file;
 use rdb_outside::Disk;
 use space_pages::{check, owner};
 use std::alloc::Global;

@@ -1,7 +1,7 @@
 // Where a store begins.
 ghost use Rattle.std.specs.Prelude.{◌≡◌, ℕ};
 ghost use Rattle.line_view.specs.Knowledge.{Lines};
-ghost use Rattle.stable_lines.specs.Journal.{Journal};
+ghost use Rattle.line_opening.specs.stable_lines.Journal.{Journal};
 ghost use Rattle.database_opening.specs.declared.stages.OpeningStage.TheVariants.{Opened};
 ghost use Rattle.database_opening.specs.Stages.{OpeningFacts};
 ghost use Rattle.database_opening.specs.Start.{IsStart};

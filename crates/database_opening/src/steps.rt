@@ -4,19 +4,19 @@ ghost use Rattle.rdb_types.specs.declared.file.FileId.{FileId as File};
 ghost use Rattle.rdb_outside.specs.Causes.{Rose};
 ghost use Rattle.rdb_outside.specs.Disk.{LeavesOnly, OnlyReads, Pending, IsStable};
 ghost use Rattle.line_view.specs.Knowledge.{Lines};
-ghost use Rattle.stable_lines.specs.Slots.{IsMember};
-ghost use Rattle.stable_lines.specs.Journal.{Journal};
-ghost use Rattle.stable_lines.specs.Kept.{Kept};
-ghost use Rattle.line_moves.specs.Classes.{HaveTheirClasses};
+ghost use Rattle.line_opening.specs.stable_lines.Slots.{IsMember};
+ghost use Rattle.line_opening.specs.stable_lines.Journal.{Journal};
+ghost use Rattle.line_opening.specs.stable_lines.Kept.{Kept};
+ghost use Rattle.line_opening.specs.line_moves.Classes.{HaveTheirClasses};
 ghost use Rattle.database_opening.specs.declared.stages.OpeningStage.TheVariants.{Undoing, Restoring, Closing, Opened};
 ghost use Rattle.database_opening.specs.Others.{IsOther, KeepsFile};
 ghost use Rattle.database_opening.specs.Stages.{OpeningFacts, IsStage, steps_left};
 ghost use Rattle.database_opening.specs.Untouched.{KeepsRootAndSpaces};
 
 use crate::stages::{Found, OpeningStage};
-use line_moves::make_stable;
+use line_opening::line_moves::make_stable;
+use line_opening::line_store::Fault;
 use line_opening::{close_next, undo_next};
-use line_store::Fault;
 use rdb_outside::Disk;
 use rdb_types::Tsn;
 

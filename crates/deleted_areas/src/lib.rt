@@ -4,3 +4,5 @@
 mod laws;
 
 pub use laws::deletions_keep_to_what_they_name;
+pub use schema_writes;
+pub use stored_schema;

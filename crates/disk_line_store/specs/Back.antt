@@ -4,10 +4,10 @@ use Rattle.rdb_outside.specs.Disk.{View}
 use Rattle.line_view.specs.Knowledge.{Lines}
 use Rattle.line_store.specs.Shelves.{Shelf}
 use Rattle.line_store.specs.Sights.{Sight}
-use Rattle.store_shows.specs.Shows.{AllOpen, Leaves}
-use Rattle.disk_store.specs.Memory.{StoreMemory}
-use Rattle.disk_store.specs.Seats.{stand_at}
-use Rattle.disk_store.specs.Shown.{Shown}
+use Rattle.change_steps.specs.store_shows.Shows.{AllOpen, Leaves}
+use Rattle.change_steps.specs.disk_store.Memory.{StoreMemory}
+use Rattle.change_steps.specs.disk_store.Seats.{stand_at}
+use Rattle.change_steps.specs.disk_store.Shown.{Shown}
 
 -- What the store showed, it showed of this disk and of what its memory held, and what a crash leaves of the disk it left of the store.
 pub record IsBack (sight : Sight) (v : View) : Type 0 where

@@ -3,12 +3,12 @@ ghost use Rattle.std.specs.Prelude.{◌≡◌, Ok};
 ghost use Rattle.line_store.specs.declared.answers.Stepped.TheVariants as stepped;
 ghost use Rattle.line_store.specs.Seats.{IsMember, IsUnderWay};
 ghost use Rattle.line_store.specs.Sights.{Does, Steps, stepped_to, MayAnswer, IsLess};
-ghost use Rattle.disk_store.specs.Seats.{stand_at, IsAtStage};
-ghost use Rattle.disk_store.specs.Shown.{sight_of};
+ghost use Rattle.change_steps.specs.disk_store.Seats.{stand_at, IsAtStage};
+ghost use Rattle.change_steps.specs.disk_store.Shown.{sight_of};
 
+use change_steps::disk_store::{Ceiling, Held, MemberStage, ask, draw};
 use change_steps::{broken_step, change_step};
 use commit_steps::commit_step;
-use disk_store::{Ceiling, Held, MemberStage, ask, draw};
 use line_store::{Fault, Stepped};
 use rdb_outside::Disk;
 use rdb_types::Session;

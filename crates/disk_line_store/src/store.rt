@@ -3,18 +3,18 @@ ghost use Rattle.std.specs.Prelude.{◌≡◌, ◌↔◌, ◌<◌, ◌^◌, ℕ}
 ghost use Rattle.line_view.specs.Knowledge.{Lines};
 ghost use Rattle.line_store.specs.Seats.{outside};
 ghost use Rattle.line_store.specs.Shelves.{Shelf};
-ghost use Rattle.store_shows.specs.Shows.{Leaves};
-ghost use Rattle.disk_store.specs.Seats.{stand_at, steps_at};
-ghost use Rattle.disk_store.specs.Shown.{Shown};
+ghost use Rattle.change_steps.specs.store_shows.Shows.{Leaves};
+ghost use Rattle.change_steps.specs.disk_store.Seats.{stand_at, steps_at};
+ghost use Rattle.change_steps.specs.disk_store.Shown.{Shown};
 ghost use Rattle.disk_line_store.specs.Back.{IsBack};
 
 use crate::stepping::step;
 use area_files::AreaFull;
-use commit_steps::is_at_barrier;
-use disk_store::{
+use change_steps::disk_store::{
     Held, begin, begin_reading, change, commit, give_back, learn_area, learn_line, prepare, room,
     steps_are_few, take_room,
 };
+use commit_steps::is_at_barrier;
 use line_store::{ChangeStop, CommitStop, Fault, LineStore, Progress, ReadStop, Stepped};
 use line_view::{Known, Write};
 use rdb_outside::Disk;
@@ -57,8 +57,8 @@ impl<D: Disk + Drop> DiskStore<D> {
 
 impl<D: Disk + Drop> LineStore for DiskStore<D> {
     ghost use Rattle.std.proofs.Common.{sym};
-    ghost use Rattle.disk_store.specs.Shown.{sight_of};
-    ghost use Rattle.disk_store.proofs.Agreeing.{agreeing, opening, standing};
+    ghost use Rattle.change_steps.specs.disk_store.Shown.{sight_of};
+    ghost use Rattle.change_steps.proofs.of_disk_store.Agreeing.{agreeing, opening, standing};
 
     ghost sight = { λ store. sight_of (D.view store.disk) store.held };
 

@@ -7,12 +7,12 @@ use Rattle.rdb_outside.specs.Moments.{Since}
 use Rattle.root_file.specs.declared.Root.{Root as RootValue}
 use Rattle.root_file.specs.Root.{IsRoot}
 use Rattle.new_database.specs.Maker.{root_file}
-use Rattle.stable_lines.specs.Slots.{Undo, line_at}
-use Rattle.stable_lines.specs.Facts.{Facts}
-use Rattle.stable_lines.specs.History.{StandsFrom}
-use Rattle.line_moves.specs.Calls.{OnlyWrites}
-use Rattle.line_moves.proofs.EveryMoment.{since_written}
-use Rattle.line_moves.proofs.Putting.{nat_cases}
+use Rattle.line_opening.specs.stable_lines.Slots.{Undo, line_at}
+use Rattle.line_opening.specs.stable_lines.Facts.{Facts}
+use Rattle.line_opening.specs.stable_lines.History.{StandsFrom}
+use Rattle.line_opening.specs.line_moves.Calls.{OnlyWrites}
+use Rattle.line_opening.proofs.of_line_moves.EveryMoment.{since_written}
+use Rattle.line_opening.proofs.of_line_moves.Putting.{nat_cases}
 use Rattle.line_seat.proofs.StageStays.{IsBesideIt}
 use Rattle.disk_seats.specs.Ledgers.{Standing, entries_of, Commit, Ledger, progress_with, progress_of, set_standing}
 use Rattle.disk_seats.specs.Members.{MemberStands, CommitStands, AreApart, LedgerFacts}

@@ -4,12 +4,12 @@ use Rattle.rdb_outside.specs.Disk.{View, Pending}
 use Rattle.root_file.specs.declared.Root.{Root}
 use Rattle.root_file.specs.Root.{IsRoot}
 use Rattle.new_database.specs.Maker.{root_file}
-use Rattle.stable_lines.specs.Slots.{IsMember, Undo}
-use Rattle.stable_lines.specs.Progress.{Open, Progress, begun}
-use Rattle.stable_lines.specs.Facts.{IsNotOpen, Facts}
-use Rattle.stable_lines.specs.History.{IsAt}
-use Rattle.stable_lines.proofs.Turns.{some_same, going_is, going_there, begins}
-use Rattle.stable_lines.proofs.Histories.{at_still}
+use Rattle.line_opening.specs.stable_lines.Slots.{IsMember, Undo}
+use Rattle.line_opening.specs.stable_lines.Progress.{Open, Progress, begun}
+use Rattle.line_opening.specs.stable_lines.Facts.{IsNotOpen, Facts}
+use Rattle.line_opening.specs.stable_lines.History.{IsAt}
+use Rattle.line_opening.proofs.of_stable_lines.Turns.{some_same, going_is, going_there, begins}
+use Rattle.line_opening.proofs.of_stable_lines.Histories.{at_still}
 use Rattle.line_seat.specs.Seats.{SeatFacts, next_open}
 use Rattle.line_seat.proofs.SeatStays.{seat_begins}
 use Rattle.line_seat.proofs.SeatGoesOn.{behind_begun}

@@ -4,9 +4,9 @@ use Rattle.rdb_outside.specs.Disk.{View, Pending}
 use Rattle.rdb_types.specs.declared.keys.Dbkey.{Dbkey}
 use Rattle.rdb_types.specs.declared.keys.Line.{Line}
 use Rattle.rdb_types.specs.declared.keys.Tsn.{Tsn}
-use Rattle.stable_lines.specs.Progress.{Open, Flight, Progress, begun, without}
-use Rattle.stable_lines.specs.Facts.{IsNotOpen, IsCommitted, IsChanged, Facts}
-use Rattle.line_moves.specs.Lines.{ChangedLines, MayPutAll}
+use Rattle.line_opening.specs.stable_lines.Progress.{Open, Flight, Progress, begun, without}
+use Rattle.line_opening.specs.stable_lines.Facts.{IsNotOpen, IsCommitted, IsChanged, Facts}
+use Rattle.line_opening.specs.line_moves.Lines.{ChangedLines, MayPutAll}
 use Rattle.line_seat.specs.declared.commit.GroupPlace.{GroupPlace}
 use Rattle.line_seat.specs.declared.commit.CommitStage.{CommitStage}
 use Rattle.line_seat.specs.declared.commit.CommitStage.TheVariants.{Changing, Imaging, Gathering, Sealing, Landing, Committed}

@@ -3,15 +3,15 @@ use Rattle.std.proofs.Common.{◌≡◌, ◌≢◌, ℕ, ◌+◌, ◌-◌, IsTru
 use Rattle.rdb_types.specs.declared.file.FileId.{FileId}
 use Rattle.rdb_outside.specs.Disk.{View, Pending}
 use Rattle.rdb_outside.specs.Moments.{Since}
-use Rattle.stable_lines.specs.Slots.{Undo}
-use Rattle.stable_lines.specs.Progress.{Open, Flight, Progress, flying, landed}
-use Rattle.stable_lines.specs.Facts.{Facts}
-use Rattle.stable_lines.specs.History.{History, IsAt, StandsFrom, GoesOn, state_with, with_try, with_commit}
-use Rattle.stable_lines.proofs.Histories.{stays, try_goes_on, commit_goes_on, at_takes_off, at_lands, since_stays, since_commit}
-use Rattle.stable_lines.proofs.Lists.{got_either, got_one}
-use Rattle.stable_lines.proofs.Turns.{some_same, going_here, going_there}
-use Rattle.line_moves.specs.Calls.{OnlyWrites}
-use Rattle.line_moves.specs.Lines.{PutsOnly}
+use Rattle.line_opening.specs.stable_lines.Slots.{Undo}
+use Rattle.line_opening.specs.stable_lines.Progress.{Open, Flight, Progress, flying, landed}
+use Rattle.line_opening.specs.stable_lines.Facts.{Facts}
+use Rattle.line_opening.specs.stable_lines.History.{History, IsAt, StandsFrom, GoesOn, state_with, with_try, with_commit}
+use Rattle.line_opening.proofs.of_stable_lines.Histories.{stays, try_goes_on, commit_goes_on, at_takes_off, at_lands, since_stays, since_commit}
+use Rattle.line_opening.proofs.of_stable_lines.Lists.{got_either, got_one}
+use Rattle.line_opening.proofs.of_stable_lines.Turns.{some_same, going_here, going_there}
+use Rattle.line_opening.specs.line_moves.Calls.{OnlyWrites}
+use Rattle.line_opening.specs.line_moves.Lines.{PutsOnly}
 use Rattle.line_seat.specs.declared.commit.CommitStage.{CommitStage}
 use Rattle.line_seat.specs.declared.commit.CommitStage.TheVariants.{Changing, Imaging, Gathering, Sealing, Landing, Committed}
 use Rattle.line_seat.specs.Seats.{SeatFacts}

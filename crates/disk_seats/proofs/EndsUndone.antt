@@ -1,13 +1,13 @@
 -- A transaction of which no page was written ends as undone.
 use Rattle.std.proofs.Common.{◌≡◌, ◌≢◌, ℕ, ◌<◌, List, [], Option, Some, None, slice_get, ⊎_elim, ap, sym, subst, ◌∙◌, refl, arith}
 use Rattle.rdb_outside.specs.Disk.{View, Pending}
-use Rattle.stable_lines.specs.Slots.{Undo}
-use Rattle.stable_lines.specs.Progress.{Progress, without}
-use Rattle.stable_lines.specs.Facts.{IsNotOpen, Facts}
-use Rattle.stable_lines.specs.History.{IsAt}
-use Rattle.stable_lines.proofs.Turns.{going_is, going_here, going_there}
-use Rattle.stable_lines.proofs.Ending.{undone, no_line_bears}
-use Rattle.stable_lines.proofs.Histories.{at_still}
+use Rattle.line_opening.specs.stable_lines.Slots.{Undo}
+use Rattle.line_opening.specs.stable_lines.Progress.{Progress, without}
+use Rattle.line_opening.specs.stable_lines.Facts.{IsNotOpen, Facts}
+use Rattle.line_opening.specs.stable_lines.History.{IsAt}
+use Rattle.line_opening.proofs.of_stable_lines.Turns.{going_is, going_here, going_there}
+use Rattle.line_opening.proofs.of_stable_lines.Ending.{undone, no_line_bears}
+use Rattle.line_opening.proofs.of_stable_lines.Histories.{at_still}
 use Rattle.line_seat.proofs.SeatGoesOn.{behind_without}
 use Rattle.disk_seats.specs.Ledgers.{Standing, resting, changing, broken, committing, undoing, Commit, Ledger, progress_with, progress_of, set_standing, ended_by}
 use Rattle.disk_seats.specs.Members.{HasOpen, MemberStands, LedgerFacts, MayEnd}

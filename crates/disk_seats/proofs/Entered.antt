@@ -7,15 +7,15 @@ use Rattle.rdb_types.specs.declared.keys.Line.{Line}
 use Rattle.rdb_outside.specs.Disk.{View, Pending, IsStable}
 use Rattle.area_files.specs.Areas.{IsDataPage, space_page_of}
 use Rattle.space_pages.specs.Space.{IsBeside, owner_of}
-use Rattle.stable_lines.specs.Slots.{area_file}
-use Rattle.stable_lines.specs.Facts.{Facts}
-use Rattle.stable_lines.proofs.Turns.{some_same}
-use Rattle.line_moves.specs.declared.places.Place.{Place}
-use Rattle.line_moves.specs.Calls.{OnlyWrites}
-use Rattle.line_moves.specs.Changes.{IsPlaceOf, KeepsLines}
-use Rattle.line_moves.specs.Lines.{ChangedLines}
-use Rattle.line_moves.proofs.Putting.{nat_cases}
-use Rattle.line_moves.proofs.KeyPlaces.{file_is}
+use Rattle.line_opening.specs.stable_lines.Slots.{area_file}
+use Rattle.line_opening.specs.stable_lines.Facts.{Facts}
+use Rattle.line_opening.proofs.of_stable_lines.Turns.{some_same}
+use Rattle.line_opening.specs.line_moves.declared.places.Place.{Place}
+use Rattle.line_opening.specs.line_moves.Calls.{OnlyWrites}
+use Rattle.line_opening.specs.line_moves.Changes.{IsPlaceOf, KeepsLines}
+use Rattle.line_opening.specs.line_moves.Lines.{ChangedLines}
+use Rattle.line_opening.proofs.of_line_moves.Putting.{nat_cases}
+use Rattle.line_opening.proofs.of_line_moves.KeyPlaces.{file_is}
 use Rattle.line_versions.specs.Lines.{storage_area}
 use Rattle.line_seat.specs.Groups.{AreEntered}
 use Rattle.disk_seats.specs.Ledgers.{Ledger, progress_of}

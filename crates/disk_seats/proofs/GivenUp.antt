@@ -4,14 +4,14 @@ use Rattle.rdb_outside.specs.Disk.{View, Pending, IsStable}
 use Rattle.rdb_outside.specs.Runs.{no_calls}
 use Rattle.journal_scan.specs.Standing.{what_stands}
 use Rattle.new_database.specs.Maker.{aij_file}
-use Rattle.stable_lines.specs.Slots.{Undo}
-use Rattle.stable_lines.specs.Journal.{commit_of, next_slot}
-use Rattle.stable_lines.specs.Progress.{Progress, flying}
-use Rattle.stable_lines.specs.Facts.{Facts}
-use Rattle.stable_lines.specs.History.{IsAt}
-use Rattle.stable_lines.proofs.Barrier.{commit_lost, lines_undone}
-use Rattle.line_moves.proofs.Runs.{writes_none}
-use Rattle.line_moves.proofs.Commits.{lands_with}
+use Rattle.line_opening.specs.stable_lines.Slots.{Undo}
+use Rattle.line_opening.specs.stable_lines.Journal.{commit_of, next_slot}
+use Rattle.line_opening.specs.stable_lines.Progress.{Progress, flying}
+use Rattle.line_opening.specs.stable_lines.Facts.{Facts}
+use Rattle.line_opening.specs.stable_lines.History.{IsAt}
+use Rattle.line_opening.proofs.of_stable_lines.Barrier.{commit_lost, lines_undone}
+use Rattle.line_opening.proofs.of_line_moves.Runs.{writes_none}
+use Rattle.line_opening.proofs.of_line_moves.Commits.{lands_with}
 use Rattle.line_seat.specs.Stages.{progress_at}
 use Rattle.line_seat.proofs.CommitSteps.{long_group, commit_of_it}
 use Rattle.disk_seats.specs.Ledgers.{Standing, undoing, entries_of, Commit, Ledger, progress_of, progress_with, flies, given_up, ended_by, landed_at}

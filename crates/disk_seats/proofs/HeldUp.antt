@@ -6,16 +6,16 @@ use Rattle.rdb_types.specs.declared.keys.Dbkey.{Dbkey}
 use Rattle.rdb_types.specs.declared.keys.Line.{Line}
 use Rattle.rdb_outside.specs.Disk.{View, Image, Pending}
 use Rattle.area_files.specs.Areas.{IsDataPage, space_page_of}
-use Rattle.stable_lines.specs.Slots.{ruj_file, area_file, line_at, Undo}
-use Rattle.stable_lines.specs.Progress.{Flight, Progress}
-use Rattle.stable_lines.specs.Facts.{Facts}
-use Rattle.stable_lines.specs.History.{IsAt}
-use Rattle.stable_lines.proofs.Fewer.{committed, changed}
-use Rattle.stable_lines.proofs.Turns.{some_same}
-use Rattle.line_moves.specs.Calls.{OnlyWrites}
-use Rattle.line_moves.specs.Lines.{ChangedLines, AreDistinct, MayPutAll, ArePut, PutsOnly}
-use Rattle.line_moves.proofs.PageWrite.{space_apart}
-use Rattle.line_moves.proofs.Putting.{nat_cases}
+use Rattle.line_opening.specs.stable_lines.Slots.{ruj_file, area_file, line_at, Undo}
+use Rattle.line_opening.specs.stable_lines.Progress.{Flight, Progress}
+use Rattle.line_opening.specs.stable_lines.Facts.{Facts}
+use Rattle.line_opening.specs.stable_lines.History.{IsAt}
+use Rattle.line_opening.proofs.of_stable_lines.Fewer.{committed, changed}
+use Rattle.line_opening.proofs.of_stable_lines.Turns.{some_same}
+use Rattle.line_opening.specs.line_moves.Calls.{OnlyWrites}
+use Rattle.line_opening.specs.line_moves.Lines.{ChangedLines, AreDistinct, MayPutAll, ArePut, PutsOnly}
+use Rattle.line_opening.proofs.of_line_moves.PageWrite.{space_apart}
+use Rattle.line_opening.proofs.of_line_moves.Putting.{nat_cases}
 use Rattle.line_seat.specs.declared.commit.GroupPlace.{GroupPlace}
 use Rattle.line_seat.specs.declared.commit.CommitStage.{CommitStage}
 use Rattle.line_seat.specs.declared.commit.CommitStage.TheVariants.{Changing, Imaging, Gathering, Sealing, Landing, Committed}

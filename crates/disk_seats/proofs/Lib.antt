@@ -1,3 +1,7 @@
+pub use Rattle.line_opening.proofs.of_line_moves as of_line_moves
+pub use Rattle.line_opening.proofs as of_line_opening
+pub use Rattle.line_seat.proofs as of_line_seat
+pub use Rattle.line_opening.proofs.of_stable_lines as of_stable_lines
 pub mod Standings
 pub mod Progresses
 pub mod OthersStay

@@ -5,12 +5,12 @@ use Rattle.rdb_outside.specs.Moments.{Since}
 use Rattle.root_file.specs.declared.Root.{Root}
 use Rattle.root_file.specs.Root.{IsRoot}
 use Rattle.new_database.specs.Maker.{root_file}
-use Rattle.stable_lines.specs.Slots.{Undo}
-use Rattle.stable_lines.specs.Progress.{Progress, flying}
-use Rattle.stable_lines.specs.Facts.{Facts}
-use Rattle.stable_lines.specs.History.{State, IsAt, StandsFrom, GoesOn, state_of, state_with, with_try, with_commit}
-use Rattle.stable_lines.proofs.Histories.{try_goes_on, commit_goes_on, at_empty, at_empty_beside, since_stays, since_commit}
-use Rattle.stable_lines.proofs.Lists.{got_either, got_one}
+use Rattle.line_opening.specs.stable_lines.Slots.{Undo}
+use Rattle.line_opening.specs.stable_lines.Progress.{Progress, flying}
+use Rattle.line_opening.specs.stable_lines.Facts.{Facts}
+use Rattle.line_opening.specs.stable_lines.History.{State, IsAt, StandsFrom, GoesOn, state_of, state_with, with_try, with_commit}
+use Rattle.line_opening.proofs.of_stable_lines.Histories.{try_goes_on, commit_goes_on, at_empty, at_empty_beside, since_stays, since_commit}
+use Rattle.line_opening.proofs.of_stable_lines.Lists.{got_either, got_one}
 use Rattle.line_seat.specs.declared.commit.CommitStage.TheVariants.{Committed}
 use Rattle.disk_seats.specs.Ledgers.{Commit, Ledger, progress_with, progress_of, flies, new_ledger, reached_beside, reached_more, marked_at}
 use Rattle.disk_seats.specs.Members.{LedgerFacts}

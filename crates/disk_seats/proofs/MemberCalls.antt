@@ -2,11 +2,11 @@
 use Rattle.std.proofs.Common.{◌≡◌, ◌≢◌, ℕ, ◌≤◌, IsTrue, List, [], ◌∷◌, ◌++◌, Some, slice_get, ◌⊎◌, sym, subst, refl, arith}
 use Rattle.rdb_types.specs.declared.file.FileKind.TheVariants.{Root, Area, Ruj}
 use Rattle.rdb_outside.specs.Disk.{View, Pending}
-use Rattle.stable_lines.specs.Slots.{ruj_file, named, Undo}
-use Rattle.stable_lines.specs.Progress.{Open}
-use Rattle.stable_lines.specs.Facts.{Facts}
-use Rattle.line_moves.specs.Calls.{OnlyWrites}
-use Rattle.line_moves.proofs.OnlyPut.{lines_beside}
+use Rattle.line_opening.specs.stable_lines.Slots.{ruj_file, named, Undo}
+use Rattle.line_opening.specs.stable_lines.Progress.{Open}
+use Rattle.line_opening.specs.stable_lines.Facts.{Facts}
+use Rattle.line_opening.specs.line_moves.Calls.{OnlyWrites}
+use Rattle.line_opening.proofs.of_line_moves.OnlyPut.{lines_beside}
 use Rattle.line_seat.specs.Seats.{SeatFacts}
 use Rattle.line_seat.proofs.StageStays.{beside_entry, beside_header}
 use Rattle.disk_seats.specs.Ledgers.{Standing, resting, changing, broken, Ledger, progress_of, stands_as}

@@ -1,8 +1,8 @@
 -- The other members behind a step that no device call shows.
 use Rattle.std.proofs.Common.{◌≡◌, ◌≢◌, ℕ, List, ⊎_elim, sym, subst, ◌∙◌, refl}
 use Rattle.rdb_outside.specs.Disk.{View}
-use Rattle.stable_lines.specs.Slots.{Undo}
-use Rattle.stable_lines.specs.Progress.{Open, Progress}
+use Rattle.line_opening.specs.stable_lines.Slots.{Undo}
+use Rattle.line_opening.specs.stable_lines.Progress.{Open, Progress}
 use Rattle.line_seat.specs.Seats.{SeatFacts}
 use Rattle.disk_seats.specs.Ledgers.{Standing, resting, changing, broken, committing, undoing, set_standing}
 use Rattle.disk_seats.specs.Members.{MemberStands}

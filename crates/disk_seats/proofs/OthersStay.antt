@@ -7,11 +7,11 @@ use Rattle.rdb_outside.specs.Disk.{View, Image, Pending, OnlyReads}
 use Rattle.new_database.specs.Maker.{root_file, aij_file}
 use Rattle.root_file.specs.declared.Root.{Root as RootValue}
 use Rattle.root_file.specs.Root.{IsRoot}
-use Rattle.stable_lines.specs.Slots.{ruj_file, area_file, named, Undo, line_at}
-use Rattle.stable_lines.specs.Progress.{Open, Progress}
-use Rattle.stable_lines.specs.Facts.{Facts}
+use Rattle.line_opening.specs.stable_lines.Slots.{ruj_file, area_file, named, Undo, line_at}
+use Rattle.line_opening.specs.stable_lines.Progress.{Open, Progress}
+use Rattle.line_opening.specs.stable_lines.Facts.{Facts}
 use Rattle.line_opening.specs.Undoing.{AreUndone}
-use Rattle.line_moves.specs.Calls.{OnlyWrites}
+use Rattle.line_opening.specs.line_moves.Calls.{OnlyWrites}
 use Rattle.line_seat.specs.Seats.{SeatFacts}
 use Rattle.line_seat.specs.Stages.{progress_at}
 use Rattle.line_seat.proofs.SeatStays.{stays_reads, stays_aside, stays_beside, stays_headed}

@@ -2,13 +2,13 @@
 use Rattle.std.proofs.Common.{◌≡◌, ◌≢◌, ℕ, ◌≤◌, IsTrue, List, [], ◌∷◌, ◌++◌, Some, None, slice_get, ⊎_elim, ap, sym, subst, ◌∙◌, arith}
 use Rattle.rdb_outside.specs.Disk.{View}
 use Rattle.rdb_types.specs.declared.keys.Dbkey.{Dbkey}
-use Rattle.stable_lines.specs.Slots.{ruj_file, named, Undo}
-use Rattle.stable_lines.specs.Image.{IsNoneOf}
-use Rattle.stable_lines.specs.Progress.{Open, Progress}
-use Rattle.stable_lines.proofs.Turns.{some_same}
-use Rattle.stable_lines.proofs.Lists.{got_either, got_one}
-use Rattle.line_moves.specs.Calls.{OnlyWrites}
-use Rattle.line_moves.proofs.Putting.{nat_cases}
+use Rattle.line_opening.specs.stable_lines.Slots.{ruj_file, named, Undo}
+use Rattle.line_opening.specs.stable_lines.Image.{IsNoneOf}
+use Rattle.line_opening.specs.stable_lines.Progress.{Open, Progress}
+use Rattle.line_opening.proofs.of_stable_lines.Turns.{some_same}
+use Rattle.line_opening.proofs.of_stable_lines.Lists.{got_either, got_one}
+use Rattle.line_opening.specs.line_moves.Calls.{OnlyWrites}
+use Rattle.line_opening.proofs.of_line_moves.Putting.{nat_cases}
 use Rattle.line_seat.specs.Seats.{MayChange, SeatFacts}
 use Rattle.disk_seats.specs.Ledgers.{Standing, resting, changing, broken, committing, undoing, entries_of, Commit, Ledger, progress_of, set_standing}
 use Rattle.disk_seats.specs.Members.{IsChanging, MemberStands, LedgerFacts, AreApart, IsLeftTo}

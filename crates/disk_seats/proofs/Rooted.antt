@@ -6,9 +6,9 @@ use Rattle.root_file.specs.declared.Root.{Root as RootValue}
 use Rattle.root_file.specs.Root.{IsRoot}
 use Rattle.root_file.proofs.Readings.{one_root}
 use Rattle.new_database.specs.Maker.{root_file}
-use Rattle.stable_lines.specs.Facts.{Facts}
-use Rattle.line_moves.specs.Calls.{OnlyWrites}
-use Rattle.line_moves.proofs.OnlyPut.{lines_beside}
+use Rattle.line_opening.specs.stable_lines.Facts.{Facts}
+use Rattle.line_opening.specs.line_moves.Calls.{OnlyWrites}
+use Rattle.line_opening.proofs.of_line_moves.OnlyPut.{lines_beside}
 use Rattle.disk_seats.specs.Ledgers.{Ledger, progress_with, progress_of}
 use Rattle.disk_seats.specs.Members.{LedgerFacts}
 use Rattle.disk_seats.specs.Ledgers.{Commit}

@@ -2,15 +2,15 @@
 use Rattle.std.proofs.Common.{◌≡◌, ℕ, IsTrue, List, Some, ap, sym, subst, ◌∙◌, refl}
 use Rattle.rdb_outside.specs.Disk.{View, Pending, IsStable, OnlyReads}
 use Rattle.new_database.specs.Maker.{root_file}
-use Rattle.stable_lines.specs.Slots.{Undo}
-use Rattle.stable_lines.specs.Facts.{Facts}
-use Rattle.line_moves.proofs.Runs.{writes_none}
+use Rattle.line_opening.specs.stable_lines.Slots.{Undo}
+use Rattle.line_opening.specs.stable_lines.Facts.{Facts}
+use Rattle.line_opening.proofs.of_line_moves.Runs.{writes_none}
 use Rattle.line_seat.proofs.Stable.{holds_all}
 use Rattle.line_seat.proofs.StageStays.{beside_reads}
 use Rattle.disk_seats.specs.Ledgers.{Standing, resting, changing, broken, committing, undoing, gained, Commit, Ledger, progress_of, progress_with, all_stable}
 use Rattle.disk_seats.specs.Members.{IsPuttingBack, MemberStands, LedgerFacts}
 use Rattle.disk_seats.proofs.Standings.{apart_gained}
-use Rattle.line_moves.proofs.OnlyPut.{keeps_lines}
+use Rattle.line_opening.proofs.of_line_moves.OnlyPut.{keeps_lines}
 use Rattle.disk_seats.proofs.OthersStay.{commit_stays, still_undone}
 use Rattle.disk_seats.proofs.Assembled.{assembled}
 use Rattle.line_seat.proofs.SeatStays.{stays_reads}

@@ -2,7 +2,7 @@
 use Rattle.std.specs.Prelude.{if◌then◌else◌}
 use Rattle.std.proofs.Common.{◌≡◌, ◌≢◌, ℕ, zero, suc, ◌<◌, ◌==◌, Bool, true, false, List, [], ◌∷◌, length, Some, slice_get, ◌⊎◌, inl, inr, ⊎_elim, ap, sym, subst, ◌∙◌, refl, arith}
 use Rattle.std.proofs.lemmas.Bool.{eqb-true, eqb-false}
-use Rattle.stable_lines.specs.Slots.{Undo}
+use Rattle.line_opening.specs.stable_lines.Slots.{Undo}
 use Rattle.rdb_outside.specs.Disk.{View}
 use Rattle.disk_seats.specs.Ledgers.{Standing, resting, changing, broken, committing, undoing, entries_of, gained, Commit, Ledger, set_standing}
 use Rattle.disk_seats.specs.Members.{AreApart, LedgerFacts, MayEnd}

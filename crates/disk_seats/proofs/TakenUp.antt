@@ -1,14 +1,14 @@
 -- A member begins to commit.
 use Rattle.std.proofs.Common.{◌≡◌, ℕ, ◌≤◌, List, length, Option, Some, None, slice_get, ap, subst, ◌∙◌, refl}
 use Rattle.rdb_outside.specs.Disk.{View, Pending}
-use Rattle.stable_lines.specs.Slots.{Undo}
-use Rattle.stable_lines.specs.Progress.{Open, Flight, Progress}
-use Rattle.stable_lines.specs.Facts.{Facts}
-use Rattle.stable_lines.specs.History.{IsAt}
-use Rattle.stable_lines.proofs.Turns.{some_same, going_here, going_there}
-use Rattle.stable_lines.proofs.Histories.{at_still}
+use Rattle.line_opening.specs.stable_lines.Slots.{Undo}
+use Rattle.line_opening.specs.stable_lines.Progress.{Open, Flight, Progress}
+use Rattle.line_opening.specs.stable_lines.Facts.{Facts}
+use Rattle.line_opening.specs.stable_lines.History.{IsAt}
+use Rattle.line_opening.proofs.of_stable_lines.Turns.{some_same, going_here, going_there}
+use Rattle.line_opening.proofs.of_stable_lines.Histories.{at_still}
 use Rattle.line_seat.specs.Seats.{IsSecured, secured}
-use Rattle.line_moves.specs.Lines.{ChangedLines}
+use Rattle.line_opening.specs.line_moves.Lines.{ChangedLines}
 use Rattle.line_seat.specs.declared.commit.GroupPlace.{GroupPlace}
 use Rattle.line_seat.specs.declared.commit.CommitStage.TheVariants.{Changing, Committed}
 use Rattle.line_seat.specs.Groups.{AreEntered, AreOfEntries, IsCommitting}

@@ -7,12 +7,12 @@ use Rattle.rdb_outside.specs.Disk.{View, Pending}
 use Rattle.area_files.specs.Areas.{IsDataPage}
 use Rattle.journal_scan.specs.Standing.{what_stands}
 use Rattle.new_database.specs.Maker.{aij_file}
-use Rattle.stable_lines.specs.Slots.{area_file, line_at, Undo}
-use Rattle.stable_lines.specs.Progress.{Open, Flight}
-use Rattle.stable_lines.specs.Facts.{Facts}
-use Rattle.stable_lines.proofs.Turns.{some_same}
-use Rattle.line_moves.specs.Calls.{OnlyWrites}
-use Rattle.line_moves.specs.Lines.{ArePut}
+use Rattle.line_opening.specs.stable_lines.Slots.{area_file, line_at, Undo}
+use Rattle.line_opening.specs.stable_lines.Progress.{Open, Flight}
+use Rattle.line_opening.specs.stable_lines.Facts.{Facts}
+use Rattle.line_opening.proofs.of_stable_lines.Turns.{some_same}
+use Rattle.line_opening.specs.line_moves.Calls.{OnlyWrites}
+use Rattle.line_opening.specs.line_moves.Lines.{ArePut}
 use Rattle.line_opening.specs.Undoing.{AreUndone, MayUndo, PutsBack}
 use Rattle.line_seat.specs.declared.commit.CommitStage.{CommitStage}
 use Rattle.line_seat.specs.declared.commit.CommitStage.TheVariants.{Changing, Imaging, Gathering, Sealing, Landing, Committed}

@@ -1,9 +1,9 @@
 -- How far the transactions of all members are, on one disk.
 use Rattle.std.specs.Prelude.{ℕ, ◌-◌, ◌==◌, Bool, true, false, if◌then◌else◌, List, [], ◌∷◌, ◌++◌, length, Option, Some, None}
-use Rattle.stable_lines.specs.Slots.{Undo}
-use Rattle.stable_lines.specs.Progress.{Open, Flight, Progress, begun, without, landed}
-use Rattle.stable_lines.specs.History.{History, state_of, state_with, with_try, with_commit}
-use Rattle.line_moves.specs.Lines.{ChangedLines}
+use Rattle.line_opening.specs.stable_lines.Slots.{Undo}
+use Rattle.line_opening.specs.stable_lines.Progress.{Open, Flight, Progress, begun, without, landed}
+use Rattle.line_opening.specs.stable_lines.History.{History, state_of, state_with, with_try, with_commit}
+use Rattle.line_opening.specs.line_moves.Lines.{ChangedLines}
 use Rattle.line_seat.specs.declared.commit.GroupPlace.{GroupPlace}
 use Rattle.line_seat.specs.declared.commit.CommitStage.{CommitStage}
 use Rattle.line_seat.specs.declared.commit.CommitStage.TheVariants.{Changing, Imaging, Gathering, Sealing, Landing, Committed}

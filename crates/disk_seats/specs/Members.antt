@@ -9,14 +9,14 @@ use Rattle.root_file.specs.Root.{IsRoot}
 use Rattle.area_files.specs.Areas.{space_page_of}
 use Rattle.space_pages.specs.Space.{owner_of}
 use Rattle.new_database.specs.Maker.{root_file}
-use Rattle.stable_lines.specs.Slots.{Undo, area_file}
-use Rattle.stable_lines.specs.Progress.{Open, Progress}
-use Rattle.stable_lines.specs.Facts.{Facts}
-use Rattle.stable_lines.specs.History.{IsAt, StandsFrom}
+use Rattle.line_opening.specs.stable_lines.Slots.{Undo, area_file}
+use Rattle.line_opening.specs.stable_lines.Progress.{Open, Progress}
+use Rattle.line_opening.specs.stable_lines.Facts.{Facts}
+use Rattle.line_opening.specs.stable_lines.History.{IsAt, StandsFrom}
 use Rattle.line_opening.specs.Undoing.{AreUndone}
-use Rattle.line_moves.specs.declared.places.Place.{Place}
-use Rattle.line_moves.specs.Changes.{IsPlaceOf}
-use Rattle.line_moves.specs.Lines.{ChangedLines}
+use Rattle.line_opening.specs.line_moves.declared.places.Place.{Place}
+use Rattle.line_opening.specs.line_moves.Changes.{IsPlaceOf}
+use Rattle.line_opening.specs.line_moves.Lines.{ChangedLines}
 use Rattle.line_seat.specs.declared.commit.CommitStage.TheVariants.{Committed}
 use Rattle.line_seat.specs.Seats.{SeatFacts}
 use Rattle.line_seat.specs.Groups.{AreOfEntries, IsCommitting}

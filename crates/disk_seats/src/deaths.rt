@@ -3,8 +3,8 @@ ghost use Rattle.std.specs.Prelude.{◌≡◌, ◌≢◌, ◌+◌, ℕ, List, tr
 ghost use Rattle.rdb_outside.specs.Disk.{IsStable};
 ghost use Rattle.journal_scan.specs.Standing.{what_stands};
 ghost use Rattle.new_database.specs.Maker.{aij_file};
-ghost use Rattle.stable_lines.specs.Slots.{Undo};
-ghost use Rattle.stable_lines.specs.Journal.{commit_of};
+ghost use Rattle.line_opening.specs.stable_lines.Slots.{Undo};
+ghost use Rattle.line_opening.specs.stable_lines.Journal.{commit_of};
 ghost use Rattle.disk_seats.specs.Ledgers.{Ledger, Commit, undoing, flies, given_up, landed_at, ended_by};
 ghost use Rattle.disk_seats.specs.Members.{LedgerFacts};
 

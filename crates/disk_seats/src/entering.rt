@@ -5,16 +5,16 @@ ghost use Rattle.rdb_outside.specs.Causes.{Rose};
 ghost use Rattle.rdb_outside.specs.Disk.{Pending};
 ghost use Rattle.area_files.specs.Areas.{IsDataPage, space_page_of};
 ghost use Rattle.space_pages.specs.Space.{IsSpace};
-ghost use Rattle.stable_lines.specs.Slots.{area_file, IsAreaFile};
-ghost use Rattle.line_moves.specs.Calls.{OnlyWrites};
-ghost use Rattle.line_moves.specs.declared.places.Place.{Place as Spot};
-ghost use Rattle.line_moves.specs.Classes.{HaveTheirClasses, KeepsOwners};
-ghost use Rattle.line_moves.specs.Changes.{IsForArea, IsPlaceOf, KeepsLines};
-ghost use Rattle.line_moves.specs.Lines.{ChangedLines};
+ghost use Rattle.line_opening.specs.stable_lines.Slots.{area_file, IsAreaFile};
+ghost use Rattle.line_opening.specs.line_moves.Calls.{OnlyWrites};
+ghost use Rattle.line_opening.specs.line_moves.declared.places.Place.{Place as Spot};
+ghost use Rattle.line_opening.specs.line_moves.Classes.{HaveTheirClasses, KeepsOwners};
+ghost use Rattle.line_opening.specs.line_moves.Changes.{IsForArea, IsPlaceOf, KeepsLines};
+ghost use Rattle.line_opening.specs.line_moves.Lines.{ChangedLines};
 ghost use Rattle.disk_seats.specs.Ledgers.{Ledger};
 ghost use Rattle.disk_seats.specs.Members.{LedgerFacts, AreOwned, IsOneArea};
 
-use line_moves::{Place, enter_page};
+use line_opening::line_moves::{Place, enter_page};
 use line_store::Fault;
 use rdb_outside::Disk;
 

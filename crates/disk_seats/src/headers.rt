@@ -1,13 +1,13 @@
 // The headers of the before-image journals.
 ghost use Rattle.std.specs.Prelude.{◌≡◌, ◌≤◌, ◌<◌, ◌^◌, [], Some, OnOk, IsTrue};
 ghost use Rattle.rdb_outside.specs.Disk.{Counts};
-ghost use Rattle.stable_lines.specs.Slots.{named, ruj_file};
-ghost use Rattle.stable_lines.specs.Progress.{Open};
-ghost use Rattle.line_moves.specs.Calls.{OnlyWrites};
+ghost use Rattle.line_opening.specs.stable_lines.Slots.{named, ruj_file};
+ghost use Rattle.line_opening.specs.stable_lines.Progress.{Open};
+ghost use Rattle.line_opening.specs.line_moves.Calls.{OnlyWrites};
 ghost use Rattle.disk_seats.specs.Ledgers.{Ledger, resting, changing};
 ghost use Rattle.disk_seats.specs.Members.{LedgerFacts};
 
-use line_moves::{close_header, open_header};
+use line_opening::line_moves::{close_header, open_header};
 use rdb_outside::{Disk, Failed};
 use rdb_types::Tsn;
 

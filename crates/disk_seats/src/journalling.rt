@@ -3,15 +3,15 @@ ghost use Rattle.std.specs.Prelude.{◌≡◌, ◌-◌, ◌+◌, ◌≤◌, ◌<
 ghost use Rattle.rdb_types.specs.declared.file.FileId.{FileId as File};
 ghost use Rattle.rdb_page.specs.Whole.{IsPageOf};
 ghost use Rattle.rdb_outside.specs.Causes.{Rose};
-ghost use Rattle.stable_lines.specs.Slots.{area_file, ruj_file, line_at, named, Undo};
-ghost use Rattle.stable_lines.specs.Image.{IsNoneOf};
-ghost use Rattle.stable_lines.specs.Progress.{Open};
-ghost use Rattle.line_moves.specs.Calls.{OnlyWrites};
-ghost use Rattle.line_moves.specs.Changes.{IsPlaceOf};
+ghost use Rattle.line_opening.specs.stable_lines.Slots.{area_file, ruj_file, line_at, named, Undo};
+ghost use Rattle.line_opening.specs.stable_lines.Image.{IsNoneOf};
+ghost use Rattle.line_opening.specs.stable_lines.Progress.{Open};
+ghost use Rattle.line_opening.specs.line_moves.Calls.{OnlyWrites};
+ghost use Rattle.line_opening.specs.line_moves.Changes.{IsPlaceOf};
 ghost use Rattle.disk_seats.specs.Ledgers.{Ledger, changing, broken, stands_as};
 ghost use Rattle.disk_seats.specs.Members.{LedgerFacts, IsLeftTo};
 
-use line_moves::Place;
+use line_opening::line_moves::Place;
 use line_seat::journal_line;
 use line_store::Fault;
 use rdb_outside::Disk;

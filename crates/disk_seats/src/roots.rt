@@ -3,11 +3,11 @@ ghost use Rattle.std.specs.Prelude.{◌≡◌, ◌≤◌, ◌⊎◌, ℕ, List, 
 ghost use Rattle.rdb_outside.specs.Disk.{Counts, Pending};
 ghost use Rattle.root_file.specs.Root.{IsAllowed, IsRoot};
 ghost use Rattle.new_database.specs.Maker.{root_file};
-ghost use Rattle.line_moves.specs.Calls.{OnlyWrites};
+ghost use Rattle.line_opening.specs.line_moves.Calls.{OnlyWrites};
 ghost use Rattle.disk_seats.specs.Ledgers.{Ledger};
 ghost use Rattle.disk_seats.specs.Members.{LedgerFacts};
 
-use line_moves::write_root;
+use line_opening::line_moves::write_root;
 use rdb_outside::{Disk, Failed};
 use root_file::Root;
 

@@ -11,13 +11,13 @@ use Rattle.line_store.specs.Seats.{outside, reading, in_flight}
 use Rattle.line_store.specs.Shelves.{Shelf, seen_from}
 use Rattle.line_store.specs.Calls.{Moves}
 use Rattle.line_store.specs.Sights.{bare, Does, BeginsReading}
-use Rattle.disk_seats.specs.Ledgers.{resting, Ledger, Commit}
-use Rattle.disk_versions.specs.Courses.{course_reading}
+use Rattle.ledger_versions.specs.disk_seats.Ledgers.{resting, Ledger, Commit}
+use Rattle.ledger_versions.specs.disk_versions.Courses.{course_reading}
 use Rattle.ledger_versions.proofs.Written.{reader_begins}
-use Rattle.member_steps.proofs.Standings.{same_lines}
-use Rattle.committed_tables.specs.Tables.{WereUsed}
-use Rattle.committed_tables.proofs.EverUsed.{used_begin}
-use Rattle.store_shows.specs.Shows.{IsInFlight}
+use Rattle.member_rooms.proofs.of_member_steps.Standings.{same_lines}
+use Rattle.member_rooms.specs.committed_tables.Tables.{WereUsed}
+use Rattle.member_rooms.proofs.of_committed_tables.EverUsed.{used_begin}
+use Rattle.member_rooms.specs.store_shows.Shows.{IsInFlight}
 use Rattle.member_memory.specs.Memory.{writes_in}
 use Rattle.disk_store.specs.declared.member.Member.{Member}
 use Rattle.disk_store.specs.declared.member.MemberStage.TheVariants as stage

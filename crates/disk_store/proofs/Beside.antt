@@ -2,17 +2,17 @@
 use Rattle.std.proofs.Common.{Some, ◌≡◌, ◌==◌, ◌⊎◌, inl, inr, ℕ, false, ◌-◌, List, length, refl, sym, ap, subst, ◌∙◌}
 use Rattle.rdb_outside.specs.Disk.{View, Pending}
 use Rattle.stable_lines.specs.Slots.{area_file, ruj_file, named}
-use Rattle.member_steps.specs.declared.committing.CommitTurn.{CommitTurn}
-use Rattle.member_steps.specs.declared.committing.CommitTurn.TheVariants.{Entering, Securing, Going}
+use Rattle.member_rooms.specs.member_steps.declared.committing.CommitTurn.{CommitTurn}
+use Rattle.member_rooms.specs.member_steps.declared.committing.CommitTurn.TheVariants.{Entering, Securing, Going}
 use Rattle.line_moves.specs.Lines.{ChangedLines}
 use Rattle.line_moves.specs.Classes.{HaveTheirClasses}
-use Rattle.member_steps.specs.Turns.{commit_of_plan}
+use Rattle.member_rooms.specs.member_steps.Turns.{commit_of_plan}
 use Rattle.area_files.specs.Areas.{IsDataPage, space_page_of}
 use Rattle.space_pages.specs.Space.{owner_of}
 use Rattle.std.specs.Prelude.{slice_get}
-use Rattle.disk_seats.proofs.Standings.{entries_gained}
-use Rattle.disk_seats.specs.Ledgers.{entries_of, Standing, resting, changing, broken, committing, undoing, gained, Commit, Ledger}
-use Rattle.disk_seats.specs.Members.{MayEnd, AreOwned}
+use Rattle.ledger_versions.proofs.of_disk_seats.Standings.{entries_gained}
+use Rattle.ledger_versions.specs.disk_seats.Ledgers.{entries_of, Standing, resting, changing, broken, committing, undoing, gained, Commit, Ledger}
+use Rattle.ledger_versions.specs.disk_seats.Members.{MayEnd, AreOwned}
 use Rattle.disk_store.specs.declared.member.Member.{Member}
 use Rattle.disk_store.specs.declared.member.MemberStage.{MemberStage}
 use Rattle.disk_store.specs.declared.member.MemberStage.TheVariants as stage

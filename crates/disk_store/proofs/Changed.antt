@@ -16,11 +16,11 @@ use Rattle.line_store.specs.Calls.{Changes, TakesSlots}
 use Rattle.line_store.specs.Sights.{Does}
 use Rattle.line_versions.specs.Versions.{Followed}
 use Rattle.line_moves.specs.Lines.{ChangedLines}
-use Rattle.version_writing.specs.Slots.{SlotTable, HoldsFile, with_aside}
-use Rattle.version_writing.specs.Tables.{HoldsAll}
-use Rattle.version_writing.specs.declared.snapshot_slots.SnapshotSlots.{SnapshotSlots}
-use Rattle.version_writing.specs.declared.snapshot_slots.Wanted.{Wanted}
-use Rattle.disk_seats.specs.Ledgers.{Ledger}
+use Rattle.reader_lines.specs.version_writing.Slots.{SlotTable, HoldsFile, with_aside}
+use Rattle.reader_lines.specs.version_writing.Tables.{HoldsAll}
+use Rattle.reader_lines.specs.version_writing.declared.snapshot_slots.SnapshotSlots.{SnapshotSlots}
+use Rattle.reader_lines.specs.version_writing.declared.snapshot_slots.Wanted.{Wanted}
+use Rattle.ledger_versions.specs.disk_seats.Ledgers.{Ledger}
 use Rattle.ledger_versions.specs.Readers.{HasVersionOf}
 use Rattle.member_memory.specs.Memory.{Memory, AreKeysOf, writes_in}
 use Rattle.member_memory.specs.Changes.{Lays}

@@ -8,7 +8,7 @@ use Rattle.rdb_types.specs.declared.keys.Line.{Line}
 use Rattle.line_moves.specs.declared.places.Place.{Place}
 use Rattle.line_moves.specs.Changes.{IsPlaceOf}
 use Rattle.line_seat.specs.Groups.{group_line}
-use Rattle.page_table.specs.Pages.{class_in}
+use Rattle.member_rooms.specs.page_table.Pages.{class_in}
 use Rattle.disk_store.specs.declared.held.Tables.{Tables}
 use Rattle.disk_store.specs.Commits.{HasClass}
 use Rattle.disk_store.specs.Shown.{pages_of}

@@ -11,9 +11,9 @@ use Rattle.line_store.specs.Calls.{Moves, IsDone, IsUndone}
 use Rattle.line_store.specs.Sights.{Does, seat_or}
 use Rattle.stable_lines.specs.Slots.{ruj_file}
 use Rattle.line_moves.specs.Calls.{OnlyWrites}
-use Rattle.disk_seats.specs.Ledgers.{resting, changing, Ledger}
-use Rattle.disk_seats.specs.Members.{LedgerFacts}
-use Rattle.disk_seats.proofs.Standings.{not_resting}
+use Rattle.ledger_versions.specs.disk_seats.Ledgers.{resting, changing, Ledger}
+use Rattle.ledger_versions.specs.disk_seats.Members.{LedgerFacts}
+use Rattle.ledger_versions.proofs.of_disk_seats.Standings.{not_resting}
 use Rattle.member_memory.specs.Memory.{writes_in}
 use Rattle.disk_store.specs.declared.member.Member.{Member}
 use Rattle.disk_store.specs.declared.member.MemberStage.{MemberStage}

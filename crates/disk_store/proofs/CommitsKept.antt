@@ -8,12 +8,12 @@ use Rattle.rdb_types.specs.declared.keys.Dbkey.{Dbkey}
 use Rattle.rdb_types.specs.Order.{dbkey_order}
 use Rattle.rdb_page.specs.Page.{lines_of}
 use Rattle.line_store.specs.Seats.{IsMember, members, group_of, lines_written, set_aside}
-use Rattle.member_steps.specs.declared.committing.CommitTurn.{CommitTurn}
-use Rattle.member_steps.specs.declared.committing.CommitTurn.TheVariants.{Entering}
+use Rattle.member_rooms.specs.member_steps.declared.committing.CommitTurn.{CommitTurn}
+use Rattle.member_rooms.specs.member_steps.declared.committing.CommitTurn.TheVariants.{Entering}
 use Rattle.line_moves.proofs.Putting.{nat_cases}
-use Rattle.page_table.specs.Pages.{owner_in}
-use Rattle.page_table.specs.Scans.{IsNew}
-use Rattle.version_writing.specs.declared.snapshot_slots.SnapshotSlots.{SnapshotSlots}
+use Rattle.member_rooms.specs.page_table.Pages.{owner_in}
+use Rattle.member_rooms.specs.page_table.Scans.{IsNew}
+use Rattle.reader_lines.specs.version_writing.declared.snapshot_slots.SnapshotSlots.{SnapshotSlots}
 use Rattle.member_memory.specs.Memory.{Memory, AreKeysOf, writes_in}
 use Rattle.disk_store.specs.declared.member.Member.{Member}
 use Rattle.disk_store.specs.declared.member.MemberStage.{MemberStage}

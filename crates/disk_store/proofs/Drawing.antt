@@ -12,11 +12,11 @@ use Rattle.line_store.specs.Seats.{beginning, writing, in_flight, done_at, IsMem
 use Rattle.line_store.specs.Shelves.{Shelf}
 use Rattle.line_store.specs.Calls.{IsDone}
 use Rattle.line_store.specs.Sights.{Does, seat_or}
-use Rattle.disk_seats.specs.Ledgers.{Standing, resting, changing, begun_by, Ledger}
-use Rattle.disk_seats.specs.Members.{LedgerFacts, MemberStands}
-use Rattle.disk_seats.proofs.Begins.{begun_facts}
-use Rattle.disk_seats.proofs.Standings.{not_resting}
-use Rattle.disk_versions.specs.Courses.{course_begun}
+use Rattle.ledger_versions.specs.disk_seats.Ledgers.{Standing, resting, changing, begun_by, Ledger}
+use Rattle.ledger_versions.specs.disk_seats.Members.{LedgerFacts, MemberStands}
+use Rattle.ledger_versions.proofs.of_disk_seats.Begins.{begun_facts}
+use Rattle.ledger_versions.proofs.of_disk_seats.Standings.{not_resting}
+use Rattle.ledger_versions.specs.disk_versions.Courses.{course_begun}
 use Rattle.ledger_versions.specs.Readers.{set_waiting}
 use Rattle.ledger_versions.proofs.MembersEnd.{member_begins}
 use Rattle.member_memory.specs.Memory.{writes_in}

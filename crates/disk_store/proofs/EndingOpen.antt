@@ -13,14 +13,14 @@ use Rattle.line_versions.specs.Files.{entries_in}
 use Rattle.line_versions.specs.Course.{Course}
 use Rattle.stable_lines.specs.Slots.{IsAreaFile}
 use Rattle.stable_lines.specs.Progress.{Open, Progress}
-use Rattle.disk_seats.specs.Ledgers.{Standing, resting, changing, broken, committing, undoing, ended_by, Ledger}
-use Rattle.disk_seats.specs.Members.{MemberStands, MayEnd}
-use Rattle.disk_seats.proofs.EndsUndone.{ended_facts}
-use Rattle.disk_seats.proofs.Standings.{not_ending}
-use Rattle.disk_versions.specs.Courses.{course_given, course_undone}
-use Rattle.version_writing.specs.Slots.{pusher_at}
-use Rattle.version_writing.specs.Tables.{table_of, HoldsAll}
-use Rattle.version_writing.specs.declared.snapshot_slots.SnapshotSlots.{SnapshotSlots}
+use Rattle.ledger_versions.specs.disk_seats.Ledgers.{Standing, resting, changing, broken, committing, undoing, ended_by, Ledger}
+use Rattle.ledger_versions.specs.disk_seats.Members.{MemberStands, MayEnd}
+use Rattle.ledger_versions.proofs.of_disk_seats.EndsUndone.{ended_facts}
+use Rattle.ledger_versions.proofs.of_disk_seats.Standings.{not_ending}
+use Rattle.ledger_versions.specs.disk_versions.Courses.{course_given, course_undone}
+use Rattle.reader_lines.specs.version_writing.Slots.{pusher_at}
+use Rattle.reader_lines.specs.version_writing.Tables.{table_of, HoldsAll}
+use Rattle.reader_lines.specs.version_writing.declared.snapshot_slots.SnapshotSlots.{SnapshotSlots}
 use Rattle.ledger_versions.specs.Readers.{MayEndUndone, Waiting, set_waiting}
 use Rattle.ledger_versions.proofs.MembersEnd.{member_ends}
 use Rattle.member_memory.specs.Memory.{writes_in}

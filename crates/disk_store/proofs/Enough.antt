@@ -4,7 +4,7 @@ use Rattle.std.specs.Prelude.{slice_get, IfNone, IfSome}
 use Rattle.rdb_types.specs.declared.keys.Dbkey.{Dbkey}
 use Rattle.stable_lines.specs.Slots.{IsAreaFile}
 use Rattle.line_moves.proofs.Putting.{nat_cases}
-use Rattle.version_writing.specs.declared.snapshot_slots.Wanted.{Wanted}
+use Rattle.reader_lines.specs.version_writing.declared.snapshot_slots.Wanted.{Wanted}
 use Rattle.disk_store.specs.declared.held.Tables.{Tables}
 use Rattle.disk_store.specs.Changing.{all_of, one_for, one_more}
 use Rattle.disk_store.specs.Sound.{AtMost, HasSlotsFor, IsUsedIn, wanted_in}

@@ -11,11 +11,11 @@ use Rattle.rdb_page.specs.Page.{IsOwner, lines_of}
 use Rattle.line_versions.specs.Lines.{shown}
 use Rattle.line_moves.specs.Lines.{ChangedLines}
 use Rattle.line_moves.proofs.Putting.{nat_cases}
-use Rattle.page_table.specs.declared.uses.PageUse.{PageUse}
-use Rattle.page_table.specs.Pages.{Pages, empty_of, is_ever, owner_in, use_of, was_used, IsEverUsed, IsLineOf}
-use Rattle.page_table.specs.Scans.{IsNew}
-use Rattle.page_table.proofs.Said.{none_has}
-use Rattle.committed_tables.proofs.Following.{same_key, not_same, same_state}
+use Rattle.member_rooms.specs.page_table.declared.uses.PageUse.{PageUse}
+use Rattle.member_rooms.specs.page_table.Pages.{Pages, empty_of, is_ever, owner_in, use_of, was_used, IsEverUsed, IsLineOf}
+use Rattle.member_rooms.specs.page_table.Scans.{IsNew}
+use Rattle.member_rooms.proofs.of_page_table.Said.{none_has}
+use Rattle.member_rooms.proofs.of_committed_tables.Following.{same_key, not_same, same_state}
 use Rattle.disk_store.specs.declared.held.Tables.{Tables}
 use Rattle.disk_store.specs.Landing.{PutsIn, PutsAll, none, more}
 use Rattle.disk_store.specs.Shown.{pages_of}

@@ -7,7 +7,7 @@ use Rattle.line_store.specs.Shelves.{Shelf}
 use Rattle.line_store.specs.Calls.{Moves, Fails}
 use Rattle.line_store.specs.declared.answers.Fault.TheVariants.{Failed}
 use Rattle.line_store.specs.Sights.{Does}
-use Rattle.disk_seats.specs.Members.{LedgerFacts}
+use Rattle.ledger_versions.specs.disk_seats.Members.{LedgerFacts}
 use Rattle.disk_store.specs.declared.member.Member.{Member}
 use Rattle.disk_store.specs.declared.member.MemberStage.TheVariants as stage
 use Rattle.disk_store.specs.Memory.{StoreMemory, with_member}

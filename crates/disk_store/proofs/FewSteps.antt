@@ -2,8 +2,8 @@
 use Rattle.std.proofs.Common.{◌≤◌, ◌<◌, ◌^◌, ℕ, Bool, true, false, length, arith}
 use Rattle.std.specs.Prelude.{if◌then◌else◌}
 use Rattle.line_seat.specs.declared.commit.CommitStage.TheVariants.{Changing as PagesChanging, Imaging, Gathering, Sealing, Landing, Committed}
-use Rattle.member_steps.specs.declared.committing.CommitTurn.{CommitTurn}
-use Rattle.member_steps.specs.declared.committing.CommitTurn.TheVariants.{Entering, Securing, Going}
+use Rattle.member_rooms.specs.member_steps.declared.committing.CommitTurn.{CommitTurn}
+use Rattle.member_rooms.specs.member_steps.declared.committing.CommitTurn.TheVariants.{Entering, Securing, Going}
 use Rattle.disk_store.specs.declared.member.Ceiling.{Ceiling}
 use Rattle.disk_store.specs.declared.member.Ceiling.TheVariants.{Asking, Raised}
 use Rattle.disk_store.specs.declared.member.Member.{Member}

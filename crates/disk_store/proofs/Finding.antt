@@ -13,7 +13,7 @@ use Rattle.line_view.specs.Writes.{laid_all}
 use Rattle.line_store.specs.Seats.{Seat, IsWriting}
 use Rattle.line_store.specs.Shelves.{Shelf, seen_from, seen_by}
 use Rattle.line_store.specs.Rooms.{IsRoom, IsFull}
-use Rattle.committed_tables.specs.Tables.{HasCommitted}
+use Rattle.member_rooms.specs.committed_tables.Tables.{HasCommitted}
 use Rattle.member_memory.specs.Memory.{writes_in}
 use Rattle.member_rooms.specs.Rooms.{IsRoomBeside, HasNoPage}
 use Rattle.member_rooms.proofs.Seen.{room-is, full-is}

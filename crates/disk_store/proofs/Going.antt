@@ -8,10 +8,10 @@ use Rattle.rdb_outside.specs.Disk.{View}
 use Rattle.line_store.specs.Shelves.{Shelf}
 use Rattle.line_versions.specs.Course.{Course, AreActive}
 use Rattle.stable_lines.specs.Progress.{Open}
-use Rattle.disk_seats.specs.Ledgers.{Standing, resting, Ledger}
-use Rattle.disk_seats.specs.Members.{MemberStands}
-use Rattle.disk_versions.specs.Versions.{IsOpenNumber}
-use Rattle.member_steps.specs.declared.committing.CommitTurn.TheVariants.{Entering, Securing, Going}
+use Rattle.ledger_versions.specs.disk_seats.Ledgers.{Standing, resting, Ledger}
+use Rattle.ledger_versions.specs.disk_seats.Members.{MemberStands}
+use Rattle.ledger_versions.specs.disk_versions.Versions.{IsOpenNumber}
+use Rattle.member_rooms.specs.member_steps.declared.committing.CommitTurn.TheVariants.{Entering, Securing, Going}
 use Rattle.disk_store.specs.declared.member.Member.{Member}
 use Rattle.disk_store.specs.declared.member.MemberStage.{MemberStage}
 use Rattle.disk_store.specs.declared.member.MemberStage.TheVariants as stage

@@ -5,10 +5,10 @@ use Rattle.rdb_outside.specs.Disk.{View}
 use Rattle.line_store.specs.Shelves.{Shelf}
 use Rattle.stable_lines.specs.Slots.{Undo}
 use Rattle.stable_lines.specs.Progress.{Open}
-use Rattle.disk_seats.specs.Ledgers.{Standing, resting, changing, broken, committing, undoing, Ledger}
-use Rattle.disk_seats.specs.Members.{MemberStands, MayEnd}
-use Rattle.member_steps.specs.declared.committing.CommitTurn.TheVariants.{Entering, Securing, Going}
-use Rattle.committed_lines.specs.Seen.{Seen, IsSeen, Stands, AreSeen}
+use Rattle.ledger_versions.specs.disk_seats.Ledgers.{Standing, resting, changing, broken, committing, undoing, Ledger}
+use Rattle.ledger_versions.specs.disk_seats.Members.{MemberStands, MayEnd}
+use Rattle.member_rooms.specs.member_steps.declared.committing.CommitTurn.TheVariants.{Entering, Securing, Going}
+use Rattle.reader_lines.specs.committed_lines.Seen.{Seen, IsSeen, Stands, AreSeen}
 use Rattle.disk_store.specs.declared.member.Member.{Member}
 use Rattle.disk_store.specs.declared.member.MemberStage.{MemberStage}
 use Rattle.disk_store.specs.declared.member.MemberStage.TheVariants as stage

@@ -13,10 +13,10 @@ use Rattle.stable_lines.specs.Progress.{Flight, Progress, flying}
 use Rattle.line_moves.specs.Changes.{IsCommitOf as IsItsCommit}
 use Rattle.line_moves.specs.Lines.{ChangedLines}
 use Rattle.line_seat.proofs.CommitSteps.{commit_of_it}
-use Rattle.member_steps.specs.Turns.{commit_of_plan}
-use Rattle.disk_seats.specs.Ledgers.{undoing, Commit, Ledger, given_up}
-use Rattle.disk_seats.specs.Members.{CommitStands, LedgerFacts}
-use Rattle.disk_seats.proofs.GivenUp.{lost_facts}
+use Rattle.member_rooms.specs.member_steps.Turns.{commit_of_plan}
+use Rattle.ledger_versions.specs.disk_seats.Ledgers.{undoing, Commit, Ledger, given_up}
+use Rattle.ledger_versions.specs.disk_seats.Members.{CommitStands, LedgerFacts}
+use Rattle.ledger_versions.proofs.of_disk_seats.GivenUp.{lost_facts}
 use Rattle.ledger_versions.proofs.Restanding.{restands, keeps_others, some_commit, no_commit}
 use Rattle.member_memory.specs.Memory.{writes_in}
 use Rattle.disk_store.specs.declared.member.Member.{Member}

@@ -12,9 +12,9 @@ use Rattle.rdb_types.specs.Order.{dbkey_order}
 use Rattle.rdb_types.specs.OrderLaws.{same_dbkey}
 use Rattle.line_view.specs.declared.writes.Write.{Write}
 use Rattle.line_store.specs.Seats.{is_written}
-use Rattle.version_writing.specs.Tables.{table_of}
-use Rattle.version_writing.specs.declared.snapshot_slots.Wanted.{Wanted}
-use Rattle.version_writing.specs.declared.snapshot_slots.SnapshotSlots.{SnapshotSlots}
+use Rattle.reader_lines.specs.version_writing.Tables.{table_of}
+use Rattle.reader_lines.specs.version_writing.declared.snapshot_slots.Wanted.{Wanted}
+use Rattle.reader_lines.specs.version_writing.declared.snapshot_slots.SnapshotSlots.{SnapshotSlots}
 use Rattle.member_memory.specs.Memory.{Memory, AreKeysOf}
 use Rattle.member_memory.specs.Changes.{blank, rewritten}
 use Rattle.member_memory.proofs.Growing.{tied, grown-found, grown-kept}

@@ -15,10 +15,10 @@ use Rattle.line_store.specs.Shelves.{Shelf, Space}
 use Rattle.line_store.specs.Calls.{TakesGroup}
 use Rattle.stable_lines.specs.Journal.{Journal, next_number, next_slot, with_group}
 use Rattle.line_moves.specs.Lines.{ChangedLines}
-use Rattle.disk_seats.specs.Ledgers.{Ledger}
-use Rattle.committed_tables.specs.Tables.{HasCommitted}
-use Rattle.page_table.specs.Pages.{owner_in, IsWithin}
-use Rattle.store_shows.specs.Rooms.{is_free}
+use Rattle.ledger_versions.specs.disk_seats.Ledgers.{Ledger}
+use Rattle.member_rooms.specs.committed_tables.Tables.{HasCommitted}
+use Rattle.member_rooms.specs.page_table.Pages.{owner_in, IsWithin}
+use Rattle.member_rooms.specs.store_shows.Rooms.{is_free}
 use Rattle.member_memory.specs.Memory.{writes_in}
 use Rattle.disk_store.specs.declared.member.Member.{Member}
 use Rattle.disk_store.specs.declared.member.MemberStage.{MemberStage}

@@ -12,11 +12,11 @@ use Rattle.line_view.proofs.Written.{written_last}
 use Rattle.line_versions.specs.Lines.{shown}
 use Rattle.line_moves.specs.Lines.{ChangedLines}
 use Rattle.line_moves.proofs.Putting.{nat_cases}
-use Rattle.page_table.specs.declared.uses.PageUse.{PageUse}
-use Rattle.page_table.specs.Pages.{Pages, owner_in, class_in, nobodys, IsLineOf, PutsLine}
-use Rattle.committed_tables.specs.Tables.{HasCommitted, WereUsed}
-use Rattle.committed_tables.proofs.Following.{laid_behind, other_behind}
-use Rattle.committed_tables.proofs.EverUsed.{used_behind_line}
+use Rattle.member_rooms.specs.page_table.declared.uses.PageUse.{PageUse}
+use Rattle.member_rooms.specs.page_table.Pages.{Pages, owner_in, class_in, nobodys, IsLineOf, PutsLine}
+use Rattle.member_rooms.specs.committed_tables.Tables.{HasCommitted, WereUsed}
+use Rattle.member_rooms.proofs.of_committed_tables.Following.{laid_behind, other_behind}
+use Rattle.member_rooms.proofs.of_committed_tables.EverUsed.{used_behind_line}
 use Rattle.member_memory.specs.Memory.{write_at, writes_in}
 use Rattle.disk_store.specs.declared.held.Tables.{Tables}
 use Rattle.disk_store.specs.Shown.{pages_of}

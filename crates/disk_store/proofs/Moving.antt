@@ -11,11 +11,11 @@ use Rattle.line_store.specs.Seats.{Seat, in_flight}
 use Rattle.line_store.specs.Shelves.{Shelf}
 use Rattle.line_store.specs.Calls.{Moves}
 use Rattle.line_store.specs.Sights.{bare, Does}
-use Rattle.disk_seats.specs.Ledgers.{Ledger, Commit}
-use Rattle.disk_versions.specs.Courses.{course_read}
+use Rattle.ledger_versions.specs.disk_seats.Ledgers.{Ledger, Commit}
+use Rattle.ledger_versions.specs.disk_versions.Courses.{course_read}
 use Rattle.ledger_versions.specs.Readers.{Waiting}
 use Rattle.ledger_versions.proofs.Written.{reader_ends}
-use Rattle.store_shows.specs.Shows.{ShowsLines, IsInFlight}
+use Rattle.member_rooms.specs.store_shows.Shows.{ShowsLines, IsInFlight}
 use Rattle.member_memory.specs.Memory.{writes_in}
 use Rattle.disk_store.specs.declared.member.Member.{Member}
 use Rattle.disk_store.specs.declared.member.MemberStage.{MemberStage}

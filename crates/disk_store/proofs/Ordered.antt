@@ -18,7 +18,7 @@ use Rattle.line_moves.specs.Lines.{ChangedLines, AreDistinct}
 use Rattle.line_seat.specs.Groups.{group_line, group_lines}
 use Rattle.stable_lines.specs.Journal.{write_of}
 use Rattle.member_memory.specs.Memory.{has_key, writes_in}
-use Rattle.committed_tables.proofs.Following.{same_key}
+use Rattle.member_rooms.proofs.of_committed_tables.Following.{same_key}
 
 tied : (q : Dbkey) → dbkey_order q q ≡ Equal
 tied q = tied_itself dbkey_total q

@@ -15,12 +15,12 @@ use Rattle.line_versions.specs.Versions.{Followed}
 use Rattle.stable_lines.specs.Slots.{area_file, ruj_file}
 use Rattle.line_moves.specs.Calls.{OnlyWrites}
 use Rattle.line_store.specs.Shelves.{Shelf}
-use Rattle.disk_seats.specs.Ledgers.{Ledger}
-use Rattle.disk_seats.specs.Members.{LedgerFacts}
-use Rattle.member_steps.proofs.Ceilings.{stays_written}
-use Rattle.committed_tables.specs.Tables.{HasCommitted}
-use Rattle.version_writing.specs.Tables.{HoldsAll}
-use Rattle.version_writing.specs.declared.snapshot_slots.SnapshotSlots.{SnapshotSlots}
+use Rattle.ledger_versions.specs.disk_seats.Ledgers.{Ledger}
+use Rattle.ledger_versions.specs.disk_seats.Members.{LedgerFacts}
+use Rattle.member_rooms.proofs.of_member_steps.Ceilings.{stays_written}
+use Rattle.member_rooms.specs.committed_tables.Tables.{HasCommitted}
+use Rattle.reader_lines.specs.version_writing.Tables.{HoldsAll}
+use Rattle.reader_lines.specs.version_writing.declared.snapshot_slots.SnapshotSlots.{SnapshotSlots}
 use Rattle.ledger_versions.specs.Readers.{ReaderFacts, Waiting}
 use Rattle.ledger_versions.proofs.Written.{still_reads, still_aside}
 use Rattle.disk_store.specs.declared.member.Member.{Member}

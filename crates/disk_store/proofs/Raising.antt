@@ -13,11 +13,11 @@ use Rattle.line_store.specs.declared.answers.Fault.TheVariants.{Bad}
 use Rattle.line_store.specs.Sights.{bare, Does}
 use Rattle.line_store.proofs.InTurn.{does-nothing}
 use Rattle.line_moves.specs.Calls.{OnlyWrites}
-use Rattle.disk_seats.specs.Ledgers.{resting, Ledger}
-use Rattle.disk_seats.specs.Members.{LedgerFacts}
-use Rattle.disk_seats.proofs.Standings.{not_resting}
-use Rattle.member_steps.specs.Beginning.{HasCeiling}
-use Rattle.member_steps.proofs.Ceilings.{stays_raised}
+use Rattle.ledger_versions.specs.disk_seats.Ledgers.{resting, Ledger}
+use Rattle.ledger_versions.specs.disk_seats.Members.{LedgerFacts}
+use Rattle.ledger_versions.proofs.of_disk_seats.Standings.{not_resting}
+use Rattle.member_rooms.specs.member_steps.Beginning.{HasCeiling}
+use Rattle.member_rooms.proofs.of_member_steps.Ceilings.{stays_raised}
 use Rattle.member_memory.specs.Memory.{writes_in}
 use Rattle.disk_store.specs.declared.member.Ceiling.TheVariants.{Asking, Raised}
 use Rattle.disk_store.specs.declared.member.Member.{Member}

@@ -3,8 +3,8 @@ use Rattle.std.proofs.Common.{◌≡◌, ◌==◌, ℕ, Bool, true, false, List,
 use Rattle.std.specs.Prelude.{slice_get, if◌then◌else◌}
 use Rattle.std.proofs.lemmas.Option.{none-some}
 use Rattle.line_versions.specs.Course.{Course, Reading}
-use Rattle.disk_versions.specs.Courses.{course_read}
-use Rattle.committed_tables.specs.Tables.{WereUsed}
+use Rattle.ledger_versions.specs.disk_versions.Courses.{course_read}
+use Rattle.member_rooms.specs.committed_tables.Tables.{WereUsed}
 use Rattle.disk_store.specs.declared.member.Member.{Member}
 use Rattle.disk_store.specs.declared.held.Tables.{Tables}
 use Rattle.disk_store.specs.declared.member.MemberStage.TheVariants as stage

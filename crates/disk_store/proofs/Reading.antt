@@ -14,11 +14,11 @@ use Rattle.line_store.specs.Shelves.{Shelf}
 use Rattle.line_store.specs.Calls.{Moves}
 use Rattle.line_store.specs.Sights.{Does, Reads}
 use Rattle.line_store.proofs.Causes.{cause-of}
-use Rattle.disk_seats.specs.Ledgers.{Ledger}
-use Rattle.disk_seats.specs.Members.{LedgerFacts}
-use Rattle.member_steps.proofs.Journals.{read_ledger}
-use Rattle.store_shows.specs.Shows.{ShowsLines}
-use Rattle.store_shows.proofs.Standing.{may_stand, lasts_with, all-open}
+use Rattle.ledger_versions.specs.disk_seats.Ledgers.{Ledger}
+use Rattle.ledger_versions.specs.disk_seats.Members.{LedgerFacts}
+use Rattle.member_rooms.proofs.of_member_steps.Journals.{read_ledger}
+use Rattle.member_rooms.specs.store_shows.Shows.{ShowsLines}
+use Rattle.member_rooms.proofs.of_store_shows.Standing.{may_stand, lasts_with, all-open}
 use Rattle.disk_store.proofs.Agreeing.{shown-opens}
 use Rattle.disk_store.specs.declared.member.Member.{Member}
 use Rattle.disk_store.specs.Memory.{StoreMemory}

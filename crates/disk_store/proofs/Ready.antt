@@ -5,7 +5,7 @@ use Rattle.rdb_outside.specs.Disk.{View}
 use Rattle.line_store.specs.Seats.{IsWriting, prepared, prepared_by, in_flight}
 use Rattle.line_store.specs.Calls.{Moves}
 use Rattle.line_store.specs.Sights.{Does, Prepares}
-use Rattle.disk_seats.specs.Ledgers.{Ledger}
+use Rattle.ledger_versions.specs.disk_seats.Ledgers.{Ledger}
 use Rattle.member_memory.specs.Memory.{writes_in}
 use Rattle.disk_store.specs.declared.member.Member.{Member}
 use Rattle.disk_store.specs.declared.member.MemberStage.TheVariants as stage

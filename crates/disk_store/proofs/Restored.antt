@@ -6,12 +6,12 @@ use Rattle.line_store.specs.Shelves.{Shelf}
 use Rattle.line_store.specs.Calls.{Moves, GoesOn}
 use Rattle.line_store.specs.Sights.{bare, Does}
 use Rattle.line_versions.specs.Course.{Course}
-use Rattle.version_writing.specs.Tables.{HoldsAll}
-use Rattle.disk_seats.specs.Ledgers.{resting, ended_by, Ledger}
-use Rattle.disk_seats.specs.Members.{LedgerFacts}
-use Rattle.disk_seats.proofs.Standings.{not_undoing}
-use Rattle.disk_seats.proofs.GivenUp.{undone_facts}
-use Rattle.disk_versions.specs.Courses.{course_given, course_undone}
+use Rattle.reader_lines.specs.version_writing.Tables.{HoldsAll}
+use Rattle.ledger_versions.specs.disk_seats.Ledgers.{resting, ended_by, Ledger}
+use Rattle.ledger_versions.specs.disk_seats.Members.{LedgerFacts}
+use Rattle.ledger_versions.proofs.of_disk_seats.Standings.{not_undoing}
+use Rattle.ledger_versions.proofs.of_disk_seats.GivenUp.{undone_facts}
+use Rattle.ledger_versions.specs.disk_versions.Courses.{course_given, course_undone}
 use Rattle.ledger_versions.specs.Readers.{MayEndUndone, set_waiting}
 use Rattle.ledger_versions.proofs.MembersEnd.{member_ends}
 use Rattle.member_memory.specs.Memory.{writes_in}

@@ -13,16 +13,16 @@ use Rattle.line_store.specs.Shelves.{Shelf, seen_by, seen_from}
 use Rattle.stable_lines.specs.Slots.{IsAreaFile}
 use Rattle.line_moves.specs.declared.places.Place.{Place}
 use Rattle.line_moves.specs.Changes.{IsPlaceOf}
-use Rattle.disk_seats.specs.Ledgers.{Ledger}
-use Rattle.disk_seats.specs.Members.{LedgerFacts}
-use Rattle.member_steps.proofs.Standings.{same_lines}
+use Rattle.ledger_versions.specs.disk_seats.Ledgers.{Ledger}
+use Rattle.ledger_versions.specs.disk_seats.Members.{LedgerFacts}
+use Rattle.member_rooms.proofs.of_member_steps.Standings.{same_lines}
 use Rattle.member_memory.specs.Memory.{writes_in}
 use Rattle.member_memory.proofs.Laying.{same-lines}
-use Rattle.committed_lines.proofs.Nowhere.{nowhere}
-use Rattle.committed_tables.specs.Tables.{WereUsed}
-use Rattle.committed_tables.proofs.EverUsed.{used_begin}
+use Rattle.reader_lines.proofs.of_committed_lines.Nowhere.{nowhere}
+use Rattle.member_rooms.specs.committed_tables.Tables.{WereUsed}
+use Rattle.member_rooms.proofs.of_committed_tables.EverUsed.{used_begin}
 use Rattle.reader_lines.specs.seen_lines.Seen as seen
-use Rattle.reader_lines.proofs.seen_lines.Gathered.{in_area, in_order}
+use Rattle.reader_lines.proofs.of_seen_lines.Gathered.{in_area, in_order}
 use Rattle.reader_lines.specs.Readers.{IsReader}
 use Rattle.reader_lines.proofs.Unseen.{unseen_nowhere}
 use Rattle.disk_store.specs.declared.member.Member.{Member}

@@ -13,10 +13,10 @@ use Rattle.rdb_outside.specs.Disk.{View}
 use Rattle.line_versions.specs.Versions.{snap_of}
 use Rattle.stable_lines.specs.Slots.{IsAreaFile}
 use Rattle.line_moves.proofs.Putting.{nat_cases}
-use Rattle.version_writing.specs.Slots.{SlotTable, Spends}
-use Rattle.version_writing.specs.Tables.{table_of}
-use Rattle.version_writing.specs.declared.snapshot_slots.Wanted.{Wanted}
-use Rattle.version_writing.specs.declared.snapshot_slots.SnapshotSlots.{SnapshotSlots}
+use Rattle.reader_lines.specs.version_writing.Slots.{SlotTable, Spends}
+use Rattle.reader_lines.specs.version_writing.Tables.{table_of}
+use Rattle.reader_lines.specs.version_writing.declared.snapshot_slots.Wanted.{Wanted}
+use Rattle.reader_lines.specs.version_writing.declared.snapshot_slots.SnapshotSlots.{SnapshotSlots}
 use Rattle.member_memory.specs.Memory.{Memory, AreKeysOf}
 use Rattle.member_memory.proofs.Growing.{has-it, tied}
 use Rattle.disk_store.specs.declared.member.Member.{Member}

@@ -12,11 +12,11 @@ use Rattle.rdb_page.specs.Page.{IsOwner, lines_of}
 use Rattle.stable_lines.specs.Slots.{IsAreaFile}
 use Rattle.line_seat.specs.Groups.{group_line}
 use Rattle.line_moves.proofs.Putting.{nat_cases}
-use Rattle.page_table.specs.declared.uses.PageUse.{PageUse}
-use Rattle.page_table.specs.Pages.{Pages, IsWithin, owner_in, class_in, use_of}
-use Rattle.page_table.specs.Scans.{IsNew}
-use Rattle.version_writing.specs.Tables.{table_of}
-use Rattle.version_writing.specs.declared.snapshot_slots.Wanted.{Wanted}
+use Rattle.member_rooms.specs.page_table.declared.uses.PageUse.{PageUse}
+use Rattle.member_rooms.specs.page_table.Pages.{Pages, IsWithin, owner_in, class_in, use_of}
+use Rattle.member_rooms.specs.page_table.Scans.{IsNew}
+use Rattle.reader_lines.specs.version_writing.Tables.{table_of}
+use Rattle.reader_lines.specs.version_writing.declared.snapshot_slots.Wanted.{Wanted}
 use Rattle.member_memory.specs.Memory.{AreKeysOf}
 use Rattle.disk_store.specs.declared.member.Member.{Member}
 use Rattle.disk_store.specs.declared.held.Tables.{Tables}

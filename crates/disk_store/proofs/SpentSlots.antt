@@ -7,13 +7,13 @@ use Rattle.line_store.specs.Shelves.{Space}
 use Rattle.line_store.specs.Calls.{KeepsSpace}
 use Rattle.line_moves.proofs.Putting.{nat_cases}
 use Rattle.stable_lines.specs.Slots.{IsAreaFile}
-use Rattle.version_writing.specs.Slots.{SlotTable, HoldsFile, Spends, without_aside}
-use Rattle.version_writing.specs.Tables.{HoldsAll, table_of}
-use Rattle.version_writing.specs.declared.snapshot_slots.SnapshotSlots.{SnapshotSlots}
-use Rattle.version_writing.specs.declared.snapshot_slots.Wanted.{Wanted}
+use Rattle.reader_lines.specs.version_writing.Slots.{SlotTable, HoldsFile, Spends, without_aside}
+use Rattle.reader_lines.specs.version_writing.Tables.{HoldsAll, table_of}
+use Rattle.reader_lines.specs.version_writing.declared.snapshot_slots.SnapshotSlots.{SnapshotSlots}
+use Rattle.reader_lines.specs.version_writing.declared.snapshot_slots.Wanted.{Wanted}
 use Rattle.disk_store.specs.ChangeSteps.{without_asides}
 use Rattle.disk_store.specs.Memory.{StoreMemory}
-use Rattle.store_shows.specs.Rooms.{HasPages}
+use Rattle.member_rooms.specs.store_shows.Rooms.{HasPages}
 use Rattle.disk_store.specs.Shown.{SpaceStands, used_in, pages_of}
 use Rattle.disk_store.proofs.Changed.{used-all}
 

@@ -4,9 +4,9 @@ use Rattle.rdb_outside.specs.Disk.{View}
 use Rattle.line_view.specs.declared.writes.Write.{Write}
 use Rattle.line_view.specs.Knowledge.{Lines}
 use Rattle.line_store.specs.Seats.{outside, writing, prepared, committing, rolling_back, IsPrepared, IsWriting, in_flight, writes_of, prepared_by, given_back, committing_by, rolled_back}
-use Rattle.member_steps.specs.declared.committing.CommitTurn.TheVariants.{Entering}
-use Rattle.disk_seats.specs.Ledgers.{Ledger}
-use Rattle.disk_seats.specs.Members.{MayEnd}
+use Rattle.member_rooms.specs.member_steps.declared.committing.CommitTurn.TheVariants.{Entering}
+use Rattle.ledger_versions.specs.disk_seats.Ledgers.{Ledger}
+use Rattle.ledger_versions.specs.disk_seats.Members.{MayEnd}
 use Rattle.disk_store.specs.declared.member.Member.{Member}
 use Rattle.disk_store.specs.declared.member.Ceiling.TheVariants.{Asking}
 use Rattle.disk_store.specs.declared.member.MemberStage.{MemberStage}

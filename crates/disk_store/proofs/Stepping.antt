@@ -12,15 +12,15 @@ use Rattle.line_store.specs.Shelves.{Shelf, Space}
 use Rattle.line_store.specs.Calls.{Moves, KeepsOthers, KeepsSpace, Lasts}
 use Rattle.line_store.specs.Sights.{bare, Does}
 use Rattle.line_versions.specs.Course.{Course}
-use Rattle.disk_seats.specs.Ledgers.{resting, Ledger, Commit}
-use Rattle.disk_versions.specs.Courses.{course_read}
-use Rattle.disk_seats.specs.Members.{LedgerFacts}
+use Rattle.ledger_versions.specs.disk_seats.Ledgers.{resting, Ledger, Commit}
+use Rattle.ledger_versions.specs.disk_versions.Courses.{course_read}
+use Rattle.ledger_versions.specs.disk_seats.Members.{LedgerFacts}
 use Rattle.stable_lines.specs.Journal.{lines_behind}
-use Rattle.version_writing.specs.Tables.{HoldsAll}
+use Rattle.reader_lines.specs.version_writing.Tables.{HoldsAll}
 use Rattle.ledger_versions.specs.Readers.{ReaderFacts, Waiting}
 use Rattle.ledger_versions.proofs.Written.{reader_ends}
-use Rattle.store_shows.specs.Shows.{Leaves, ShowsLines, IsInFlight}
-use Rattle.store_shows.proofs.Standing.{may_stand, lasts_with, all-open}
+use Rattle.member_rooms.specs.store_shows.Shows.{Leaves, ShowsLines, IsInFlight}
+use Rattle.member_rooms.proofs.of_store_shows.Standing.{may_stand, lasts_with, all-open}
 use Rattle.disk_store.proofs.Agreeing.{shown-opens}
 use Rattle.member_memory.specs.Memory.{writes_in}
 use Rattle.disk_store.specs.declared.member.Member.{Member}

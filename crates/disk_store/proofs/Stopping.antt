@@ -10,8 +10,8 @@ use Rattle.line_store.specs.Seats.{IsWriting, writes_of, lines_added, lines_writ
 use Rattle.line_store.specs.Shelves.{Shelf}
 use Rattle.line_store.specs.Calls.{MayStopChange}
 use Rattle.stable_lines.specs.Slots.{IsAreaFile}
-use Rattle.version_writing.specs.Slots.{SlotTable, IsFullOf}
-use Rattle.version_writing.specs.Tables.{table_of}
+use Rattle.reader_lines.specs.version_writing.Slots.{SlotTable, IsFullOf}
+use Rattle.reader_lines.specs.version_writing.Tables.{table_of}
 use Rattle.member_memory.specs.Memory.{writes_in}
 use Rattle.disk_store.specs.declared.member.Member.{Member}
 use Rattle.disk_store.specs.Memory.{StoreMemory}

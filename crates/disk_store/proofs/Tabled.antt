@@ -15,14 +15,14 @@ use Rattle.line_moves.specs.Changes.{IsForArea}
 use Rattle.line_moves.specs.Classes.{HaveTheirClasses}
 use Rattle.line_moves.proofs.Reading.{owner_is}
 use Rattle.line_moves.proofs.Putting.{nat_cases}
-use Rattle.disk_seats.specs.Ledgers.{Ledger}
-use Rattle.disk_seats.specs.Members.{LedgerFacts}
-use Rattle.disk_seats.proofs.Progresses.{same_limits}
-use Rattle.page_table.specs.declared.uses.PageUse.{PageUse}
-use Rattle.page_table.specs.Pages.{Pages, nobodys, use_of, owner_in, class_in, empty_of, IsWithin, Puts}
-use Rattle.page_table.specs.Scans.{IsNew}
-use Rattle.committed_tables.specs.Tables.{HasCommitted}
-use Rattle.committed_tables.proofs.Following.{taken_behind}
+use Rattle.ledger_versions.specs.disk_seats.Ledgers.{Ledger}
+use Rattle.ledger_versions.specs.disk_seats.Members.{LedgerFacts}
+use Rattle.ledger_versions.proofs.of_disk_seats.Progresses.{same_limits}
+use Rattle.member_rooms.specs.page_table.declared.uses.PageUse.{PageUse}
+use Rattle.member_rooms.specs.page_table.Pages.{Pages, nobodys, use_of, owner_in, class_in, empty_of, IsWithin, Puts}
+use Rattle.member_rooms.specs.page_table.Scans.{IsNew}
+use Rattle.member_rooms.specs.committed_tables.Tables.{HasCommitted}
+use Rattle.member_rooms.proofs.of_committed_tables.Following.{taken_behind}
 use Rattle.member_rooms.specs.Classes.{IsClassOf, HasNoOwned}
 use Rattle.disk_store.specs.declared.held.Tables.{Tables}
 use Rattle.disk_store.specs.Shown.{pages_of, TablesStand}

@@ -7,12 +7,12 @@ use Rattle.rdb_outside.specs.Disk.{View}
 use Rattle.line_store.specs.Shelves.{Shelf, Space}
 use Rattle.line_store.specs.Rooms.{Takes, IsTaken}
 use Rattle.line_store.specs.Sights.{Does, Stays}
-use Rattle.page_table.specs.Pages.{Pages}
-use Rattle.page_table.specs.Scans.{IsNew}
-use Rattle.committed_tables.specs.Tables.{WereUsed}
-use Rattle.committed_tables.proofs.EverUsed.{used_behind_page}
-use Rattle.store_shows.specs.Rooms.{is_free, HasPages}
-use Rattle.store_shows.proofs.Taken.{is_taken, page_is_taken}
+use Rattle.member_rooms.specs.page_table.Pages.{Pages}
+use Rattle.member_rooms.specs.page_table.Scans.{IsNew}
+use Rattle.member_rooms.specs.committed_tables.Tables.{WereUsed}
+use Rattle.member_rooms.proofs.of_committed_tables.EverUsed.{used_behind_page}
+use Rattle.member_rooms.specs.store_shows.Rooms.{is_free, HasPages}
+use Rattle.member_rooms.proofs.of_store_shows.Taken.{is_taken, page_is_taken}
 use Rattle.disk_store.specs.declared.held.Tables.{Tables}
 use Rattle.disk_store.specs.Memory.{StoreMemory, with_tables}
 use Rattle.disk_store.specs.Seats.{stand_at}

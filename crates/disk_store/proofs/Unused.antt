@@ -9,9 +9,9 @@ use Rattle.line_view.specs.Knowledge.{Lines}
 use Rattle.line_versions.specs.Course.{Course}
 use Rattle.stable_lines.specs.Slots.{Undo, line_at}
 use Rattle.stable_lines.specs.Progress.{Open}
-use Rattle.disk_seats.specs.Ledgers.{entries_of, Commit, Ledger, Standing}
-use Rattle.disk_seats.specs.Members.{LedgerFacts}
-use Rattle.disk_versions.specs.Courses.{course_landed}
+use Rattle.ledger_versions.specs.disk_seats.Ledgers.{entries_of, Commit, Ledger, Standing}
+use Rattle.ledger_versions.specs.disk_seats.Members.{LedgerFacts}
+use Rattle.ledger_versions.specs.disk_versions.Courses.{course_landed}
 use Rattle.ledger_versions.specs.Readers.{HasBefore}
 use Rattle.ledger_versions.proofs.Standings.{its_line}
 use Rattle.disk_store.specs.declared.member.Member.{Member}

@@ -1,7 +1,7 @@
 -- Of which members before-images stand, as a store has them in memory.
 use Rattle.std.specs.Prelude.{Option, Some, None}
-use Rattle.member_steps.specs.declared.committing.CommitTurn.TheVariants.{Entering, Securing, Going}
-use Rattle.committed_lines.specs.Seen.{Seen}
+use Rattle.member_rooms.specs.member_steps.declared.committing.CommitTurn.TheVariants.{Entering, Securing, Going}
+use Rattle.reader_lines.specs.committed_lines.Seen.{Seen}
 use Rattle.disk_store.specs.declared.member.Member.{Member}
 use Rattle.disk_store.specs.declared.member.MemberStage.{MemberStage}
 use Rattle.disk_store.specs.declared.member.MemberStage.TheVariants as stage

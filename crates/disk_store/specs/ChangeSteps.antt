@@ -13,12 +13,12 @@ use Rattle.line_versions.specs.Course.{Course}
 use Rattle.stable_lines.specs.Slots.{IsAreaFile, line_at}
 use Rattle.stable_lines.specs.Progress.{Progress}
 use Rattle.line_moves.specs.Calls.{OnlyWrites}
-use Rattle.disk_versions.specs.Courses.{course_pushed}
-use Rattle.disk_versions.specs.Versions.{VersionFacts}
-use Rattle.version_writing.specs.Slots.{IsAside, Spends, without_aside}
-use Rattle.version_writing.specs.Tables.{HoldsAll, table_of}
-use Rattle.version_writing.specs.declared.snapshot_slots.SnapshotSlots.{SnapshotSlots}
-use Rattle.version_writing.specs.declared.snapshot_slots.Wanted.{Wanted}
+use Rattle.ledger_versions.specs.disk_versions.Courses.{course_pushed}
+use Rattle.ledger_versions.specs.disk_versions.Versions.{VersionFacts}
+use Rattle.reader_lines.specs.version_writing.Slots.{IsAside, Spends, without_aside}
+use Rattle.reader_lines.specs.version_writing.Tables.{HoldsAll, table_of}
+use Rattle.reader_lines.specs.version_writing.declared.snapshot_slots.SnapshotSlots.{SnapshotSlots}
+use Rattle.reader_lines.specs.version_writing.declared.snapshot_slots.Wanted.{Wanted}
 use Rattle.member_memory.specs.Memory.{Memory, writes_in}
 use Rattle.disk_store.specs.declared.member.Member.{Member}
 use Rattle.disk_store.specs.declared.member.MemberStage.TheVariants as stage

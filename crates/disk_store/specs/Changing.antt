@@ -12,10 +12,10 @@ use Rattle.line_store.specs.declared.answers.ChangeStop.TheVariants as stop
 use Rattle.line_store.specs.Seats.{lines_added}
 use Rattle.line_moves.specs.declared.places.Place.{Place}
 use Rattle.line_moves.specs.Changes.{IsPlaceOf}
-use Rattle.page_table.specs.Pages.{IsLineOf, class_in}
-use Rattle.version_writing.specs.Slots.{IsFullOf, with_aside}
-use Rattle.version_writing.specs.declared.snapshot_slots.SnapshotSlots.{SnapshotSlots}
-use Rattle.version_writing.specs.declared.snapshot_slots.Wanted.{Wanted}
+use Rattle.member_rooms.specs.page_table.Pages.{IsLineOf, class_in}
+use Rattle.reader_lines.specs.version_writing.Slots.{IsFullOf, with_aside}
+use Rattle.reader_lines.specs.version_writing.declared.snapshot_slots.SnapshotSlots.{SnapshotSlots}
+use Rattle.reader_lines.specs.version_writing.declared.snapshot_slots.Wanted.{Wanted}
 use Rattle.member_memory.specs.Memory.{Memory, writes_in}
 use Rattle.member_memory.specs.declared.changes.AddStop.{AddStop}
 use Rattle.member_memory.specs.declared.changes.AddStop.TheVariants.{Full, NoMemory}

@@ -1,8 +1,8 @@
 -- What becomes of a session that dies.
 use Rattle.std.specs.Prelude.{ℕ, zero, suc, Bool, true, false, []}
-use Rattle.member_steps.specs.declared.committing.CommitTurn.{CommitTurn}
-use Rattle.member_steps.specs.declared.committing.CommitTurn.TheVariants.{Entering, Securing, Going}
-use Rattle.disk_seats.specs.Ledgers.{flies}
+use Rattle.member_rooms.specs.member_steps.declared.committing.CommitTurn.{CommitTurn}
+use Rattle.member_rooms.specs.member_steps.declared.committing.CommitTurn.TheVariants.{Entering, Securing, Going}
+use Rattle.ledger_versions.specs.disk_seats.Ledgers.{flies}
 use Rattle.disk_store.specs.declared.member.Member.{Member}
 use Rattle.disk_store.specs.declared.member.MemberStage.{MemberStage}
 use Rattle.disk_store.specs.declared.member.MemberStage.TheVariants as stage

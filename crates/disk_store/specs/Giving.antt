@@ -4,10 +4,10 @@ use Rattle.line_store.specs.Shelves.{Shelf}
 use Rattle.line_store.specs.Calls.{Moves}
 use Rattle.line_versions.specs.Versions.{sees}
 use Rattle.stable_lines.specs.Slots.{IsAreaFile}
-use Rattle.version_writing.specs.Slots.{GivesBack, pusher_at}
-use Rattle.version_writing.specs.Tables.{table_of}
-use Rattle.version_writing.specs.Wanting.{IsInUse, Sifts}
-use Rattle.version_writing.specs.declared.snapshot_slots.SnapshotSlots.{SnapshotSlots}
+use Rattle.reader_lines.specs.version_writing.Slots.{GivesBack, pusher_at}
+use Rattle.reader_lines.specs.version_writing.Tables.{table_of}
+use Rattle.reader_lines.specs.version_writing.Wanting.{IsInUse, Sifts}
+use Rattle.reader_lines.specs.version_writing.declared.snapshot_slots.SnapshotSlots.{SnapshotSlots}
 use Rattle.disk_store.specs.declared.member.Member.{Member}
 use Rattle.disk_store.specs.declared.member.MemberStage.TheVariants as stage
 use Rattle.disk_store.specs.ChangeSteps.{no_slots, without_asides}

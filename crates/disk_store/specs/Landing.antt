@@ -8,7 +8,7 @@ use Rattle.line_versions.specs.Lines.{shown}
 use Rattle.line_moves.specs.declared.places.Place.{Place}
 use Rattle.line_moves.specs.Changes.{IsPlaceOf}
 use Rattle.line_moves.specs.Lines.{ChangedLines}
-use Rattle.page_table.specs.Pages.{IsLineOf, PutsLine}
+use Rattle.member_rooms.specs.page_table.Pages.{IsLineOf, PutsLine}
 use Rattle.disk_store.specs.declared.member.Member.{Member}
 use Rattle.disk_store.specs.declared.member.MemberStage.{MemberStage}
 use Rattle.disk_store.specs.declared.held.Tables.{Tables}

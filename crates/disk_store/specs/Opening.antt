@@ -1,8 +1,8 @@
 -- What a store keeps in memory as it begins.
 use Rattle.std.specs.Prelude.{ℕ, ◌≡◌, List, [], Some, slice_get}
 use Rattle.stable_lines.specs.Slots.{IsAreaFile}
-use Rattle.version_writing.specs.Slots.{AreFree}
-use Rattle.version_writing.specs.Tables.{table_of}
+use Rattle.reader_lines.specs.version_writing.Slots.{AreFree}
+use Rattle.reader_lines.specs.version_writing.Tables.{table_of}
 use Rattle.disk_store.specs.declared.member.Member.{Member}
 use Rattle.disk_store.specs.declared.member.MemberStage.TheVariants as stage
 use Rattle.disk_store.specs.Memory.{StoreMemory}

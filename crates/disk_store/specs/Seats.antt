@@ -3,8 +3,8 @@ use Rattle.std.specs.Prelude.{◌≡◌, ℕ, ◌+◌, ◌-◌, if◌then◌else
 use Rattle.line_view.specs.declared.writes.Write.{Write}
 use Rattle.line_view.specs.Knowledge.{Lines}
 use Rattle.line_seat.specs.declared.commit.CommitStage.TheVariants.{Changing as PagesChanging, Imaging, Gathering, Sealing, Landing, Committed}
-use Rattle.member_steps.specs.declared.committing.CommitTurn.{CommitTurn}
-use Rattle.member_steps.specs.declared.committing.CommitTurn.TheVariants.{Entering, Securing, Going}
+use Rattle.member_rooms.specs.member_steps.declared.committing.CommitTurn.{CommitTurn}
+use Rattle.member_rooms.specs.member_steps.declared.committing.CommitTurn.TheVariants.{Entering, Securing, Going}
 use Rattle.line_store.specs.Seats.{Seat, outside, beginning, writing, changing, prepared, committing, rolling_back, closing, reading, dead}
 use Rattle.disk_store.specs.declared.member.Member.{Member}
 use Rattle.disk_store.specs.declared.member.Ceiling.{Ceiling}

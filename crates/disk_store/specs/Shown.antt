@@ -24,16 +24,16 @@ use Rattle.line_moves.specs.declared.places.Place.{Place}
 use Rattle.line_moves.specs.Changes.{IsForArea}
 use Rattle.line_moves.specs.Classes.{HaveTheirClasses}
 use Rattle.line_moves.specs.Lines.{ChangedLines}
-use Rattle.disk_seats.specs.Ledgers.{resting, Ledger}
-use Rattle.disk_seats.specs.Members.{LedgerFacts}
-use Rattle.member_steps.specs.Beginning.{HasCeiling}
-use Rattle.page_table.specs.Pages.{Pages, nobodys, owner_in, class_in, IsEverUsed, IsWithin}
-use Rattle.committed_tables.specs.Tables.{HasCommitted, WereUsed}
-use Rattle.version_writing.specs.Slots.{SlotTable}
-use Rattle.version_writing.specs.Tables.{HoldsAll}
+use Rattle.ledger_versions.specs.disk_seats.Ledgers.{resting, Ledger}
+use Rattle.ledger_versions.specs.disk_seats.Members.{LedgerFacts}
+use Rattle.member_rooms.specs.member_steps.Beginning.{HasCeiling}
+use Rattle.member_rooms.specs.page_table.Pages.{Pages, nobodys, owner_in, class_in, IsEverUsed, IsWithin}
+use Rattle.member_rooms.specs.committed_tables.Tables.{HasCommitted, WereUsed}
+use Rattle.reader_lines.specs.version_writing.Slots.{SlotTable}
+use Rattle.reader_lines.specs.version_writing.Tables.{HoldsAll}
 use Rattle.ledger_versions.specs.Readers.{ReaderFacts, Waiting, HasVersionOf}
-use Rattle.store_shows.specs.Shows.{AllOpen, Leaves, ShowsLines}
-use Rattle.store_shows.specs.Rooms.{HasPages}
+use Rattle.member_rooms.specs.store_shows.Shows.{AllOpen, Leaves, ShowsLines}
+use Rattle.member_rooms.specs.store_shows.Rooms.{HasPages}
 use Rattle.member_memory.specs.Memory.{Memory, writes_in}
 use Rattle.disk_store.specs.declared.member.Member.{Member}
 use Rattle.disk_store.specs.declared.member.MemberStage.{MemberStage}

@@ -10,9 +10,9 @@ use Rattle.stable_lines.specs.Slots.{IsAreaFile}
 use Rattle.line_moves.specs.declared.places.Place.{Place}
 use Rattle.line_moves.specs.Changes.{IsPlaceOf}
 use Rattle.line_seat.specs.Groups.{group_line}
-use Rattle.page_table.specs.Pages.{IsEverUsed, IsLineOf, class_in}
-use Rattle.version_writing.specs.Tables.{table_of}
-use Rattle.version_writing.specs.declared.snapshot_slots.Wanted.{Wanted}
+use Rattle.member_rooms.specs.page_table.Pages.{IsEverUsed, IsLineOf, class_in}
+use Rattle.reader_lines.specs.version_writing.Tables.{table_of}
+use Rattle.reader_lines.specs.version_writing.declared.snapshot_slots.Wanted.{Wanted}
 use Rattle.member_memory.specs.Memory.{AreKeysOf}
 use Rattle.disk_store.specs.declared.member.Member.{Member}
 use Rattle.disk_store.specs.declared.held.Tables.{Tables}

@@ -6,11 +6,11 @@ use Rattle.stable_lines.specs.Progress.{Open}
 use Rattle.line_moves.specs.Classes.{HaveTheirClasses}
 use Rattle.line_seat.specs.declared.commit.CommitStage.{CommitStage}
 use Rattle.line_seat.specs.Groups.{AreOfClasses}
-use Rattle.member_steps.specs.declared.committing.CommitTurn.{CommitTurn}
-use Rattle.member_steps.specs.declared.committing.CommitTurn.TheVariants.{Entering, Securing, Going}
-use Rattle.disk_seats.specs.Ledgers.{resting, changing, undoing, entries_of, Ledger, flies}
-use Rattle.disk_seats.specs.Members.{MayEnd, AreOwned}
-use Rattle.member_steps.specs.Turns.{Plan, commit_of_plan}
+use Rattle.member_rooms.specs.member_steps.declared.committing.CommitTurn.{CommitTurn}
+use Rattle.member_rooms.specs.member_steps.declared.committing.CommitTurn.TheVariants.{Entering, Securing, Going}
+use Rattle.ledger_versions.specs.disk_seats.Ledgers.{resting, changing, undoing, entries_of, Ledger, flies}
+use Rattle.ledger_versions.specs.disk_seats.Members.{MayEnd, AreOwned}
+use Rattle.member_rooms.specs.member_steps.Turns.{Plan, commit_of_plan}
 use Rattle.disk_store.specs.declared.member.Member.{Member}
 use Rattle.disk_store.specs.declared.member.MemberStage.{MemberStage}
 use Rattle.disk_store.specs.declared.member.MemberStage.TheVariants as stage

@@ -1,6 +1,6 @@
 -- A page that is taken in the table of an area file.
 use Rattle.std.specs.Prelude.{ℕ, ◌≡◌}
-use Rattle.page_table.specs.Pages.{Puts, empty_of}
+use Rattle.member_rooms.specs.page_table.Pages.{Puts, empty_of}
 use Rattle.disk_store.specs.declared.held.Tables.{Tables}
 use Rattle.disk_store.specs.Shown.{pages_of}
 

@@ -5,7 +5,7 @@ ghost use Rattle.line_store.specs.Shelves.{Shelf};
 ghost use Rattle.line_store.specs.Calls.{Changes, MayStopChange};
 ghost use Rattle.line_store.specs.Sights.{Does, Stays};
 ghost use Rattle.stable_lines.specs.Slots.{IsAreaFile};
-ghost use Rattle.page_table.specs.Pages.{IsEverUsed};
+ghost use Rattle.member_rooms.specs.page_table.Pages.{IsEverUsed};
 ghost use Rattle.member_memory.specs.Memory.{writes_in};
 ghost use Rattle.disk_store.specs.declared.member.Member.{Member as Sits};
 ghost use Rattle.disk_store.specs.Changing.{AreFit, HasPlace, IsFreeFor, LaysOver, LaysWrites, Stops, StopsAt, all_of, one_for, size_of, stop_of, with_asides};
@@ -19,11 +19,11 @@ use line_moves::place_of;
 use line_store::ChangeStop;
 use line_view::Write;
 use member_memory::{AddStop, MemberLines};
-use page_table::PageTable;
+use member_rooms::page_table::PageTable;
 use rdb_outside::Disk;
 use rdb_page::lines_of;
 use rdb_types::{Dbkey, Image, Session, Tsn};
-use version_writing::{SnapshotSlots, Wanted};
+use reader_lines::version_writing::{SnapshotSlots, Wanted};
 
 fn image_size(image: &Option<Image>) -> usize
     ensures { result ≡ size_of image.now }

@@ -3,7 +3,7 @@ ghost use Rattle.std.specs.Prelude.{◌≡◌, ◌<◌, ◌≤◌, ◌+◌, ◌�
 ghost use Rattle.line_store.specs.Seats.{IsMember};
 ghost use Rattle.line_moves.specs.declared.places.Place.{Place as Spot};
 ghost use Rattle.line_moves.specs.Changes.{IsPlaceOf};
-ghost use Rattle.page_table.specs.Pages.{IsLineOf, class_in};
+ghost use Rattle.member_rooms.specs.page_table.Pages.{IsLineOf, class_in};
 ghost use Rattle.disk_store.specs.declared.member.Member.{Member as Sits};
 ghost use Rattle.disk_store.specs.Commits.{AreOfPages, HasRoomFor, IsPreparedWith};
 ghost use Rattle.disk_store.specs.Memory.{with_member};

@@ -1,8 +1,8 @@
 // What a store keeps in memory.
 ghost use Rattle.std.specs.Prelude.{◌≡◌, ◌==◌, ◌<◌, ℕ, Bool, true, false, Some, length, slice_get};
 ghost use Rattle.line_store.specs.Seats.{IsMember};
-ghost use Rattle.member_steps.specs.declared.committing.CommitTurn.{CommitTurn as Turn};
-ghost use Rattle.member_steps.specs.declared.committing.CommitTurn.TheVariants.{Entering};
+ghost use Rattle.member_rooms.specs.member_steps.declared.committing.CommitTurn.{CommitTurn as Turn};
+ghost use Rattle.member_rooms.specs.member_steps.declared.committing.CommitTurn.TheVariants.{Entering};
 ghost use Rattle.disk_store.specs.declared.member.Member.{Member as Sits};
 ghost use Rattle.disk_store.specs.declared.member.MemberStage.TheVariants.{Committing, Dead, Prepared};
 ghost use Rattle.disk_store.specs.Commits.{is_free, is_flying, HasSome, IsReady, KeepsCommits};
@@ -14,12 +14,12 @@ ghost use Rattle.disk_store.specs.Sound.{IsSound};
 use crate::{Member, MemberStage};
 use line_opening::NextGroup;
 use member_memory::MemberLines;
-use member_steps::CommitTurn;
-use page_table::PageTable;
+use member_rooms::member_steps::CommitTurn;
+use member_rooms::page_table::PageTable;
 use rdb_types::{Limits, Session, Tsn};
+use reader_lines::version_writing::SnapshotSlots;
 use std::alloc::Global;
 use std::marker::Model;
-use version_writing::SnapshotSlots;
 
 /// The number of the next transaction; the ceiling that each root has which a crash may leave: numbers below it may be drawn; the ceiling of the root that was written last, which isn't lower; and what each root says of the groups that a backup had applied.
 #[derive(Clone, Copy, Debug, PartialEq, Eq)]

@@ -8,7 +8,7 @@ ghost use Rattle.line_versions.specs.Lines.{shown};
 ghost use Rattle.stable_lines.specs.Slots.{IsAreaFile};
 ghost use Rattle.line_moves.specs.declared.places.Place.{Place as Spot};
 ghost use Rattle.line_moves.specs.Changes.{IsPlaceOf};
-ghost use Rattle.page_table.specs.Pages.{IsLineOf};
+ghost use Rattle.member_rooms.specs.page_table.Pages.{IsLineOf};
 ghost use Rattle.disk_store.specs.declared.member.Member.{Member as Sits};
 ghost use Rattle.disk_store.specs.declared.held.Tables.{Tables as Kept};
 ghost use Rattle.disk_store.specs.Commits.{is_free, is_flying};

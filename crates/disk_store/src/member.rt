@@ -1,9 +1,9 @@
 // What is kept in memory of a session.
 use member_memory::MemberLines;
-use member_steps::CommitTurn;
+use member_rooms::member_steps::CommitTurn;
 use rdb_types::Tsn;
+use reader_lines::version_writing::Wanted;
 use version_reading::Reader;
-use version_writing::Wanted;
 
 /// What is left of the recovery of a session that died.
 #[derive(Clone, Copy, Debug, PartialEq, Eq)]

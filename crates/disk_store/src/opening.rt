@@ -7,9 +7,9 @@ use crate::{Held, Member, MemberStage, Numbers, Tables};
 use line_opening::NextGroup;
 use member_memory::MemberLines;
 use rdb_types::{Limits, NoMemory, Tsn};
+use reader_lines::version_writing::{SnapshotSlots, Wanted};
 use std::alloc::Global;
 use version_reading::Reader;
-use version_writing::{SnapshotSlots, Wanted};
 
 /// Each of the sessions from 1 to 16 has the place of its number.
 const PLACES: usize = 17;

@@ -5,7 +5,7 @@ ghost use Rattle.line_store.specs.Seats.{IsMember, IsWriting};
 ghost use Rattle.line_store.specs.Shelves.{Shelf};
 ghost use Rattle.line_store.specs.Rooms.{IsRoom, IsFull, IsTaken, Takes};
 ghost use Rattle.line_store.specs.Sights.{Does, Stays};
-ghost use Rattle.page_table.specs.Scans.{IsNew};
+ghost use Rattle.member_rooms.specs.page_table.Scans.{IsNew};
 ghost use Rattle.stable_lines.specs.Slots.{IsAreaFile};
 ghost use Rattle.member_rooms.specs.Classes.{IsClassOf, HasNoOwned};
 ghost use Rattle.disk_store.specs.declared.member.Member.{Member as Sits};
@@ -18,8 +18,8 @@ ghost use Rattle.disk_store.specs.Taken.{TakesIn};
 use crate::Held;
 use area_files::{AreaFull, storage_area};
 use member_memory::MemberLines;
+use member_rooms::page_table::PageTable;
 use member_rooms::{class_of, is_new, next_room};
-use page_table::PageTable;
 use rdb_outside::Disk;
 use rdb_types::{Dbkey, NoMemory, Session};
 

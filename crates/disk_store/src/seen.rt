@@ -8,10 +8,10 @@ ghost use Rattle.line_store.specs.declared.answers.Fault.TheVariants.{Failed, Ba
 ghost use Rattle.line_store.specs.Seats.{IsMember, IsAtRest};
 ghost use Rattle.line_store.specs.Shelves.{Shelf, seen_by};
 ghost use Rattle.stable_lines.specs.Slots.{IsAreaFile};
-ghost use Rattle.disk_seats.specs.Ledgers.{Ledger};
-ghost use Rattle.disk_seats.specs.Members.{LedgerFacts};
-ghost use Rattle.committed_lines.specs.Seen.{AreSeen};
-ghost use Rattle.committed_tables.specs.Tables.{WereUsed};
+ghost use Rattle.ledger_versions.specs.disk_seats.Ledgers.{Ledger};
+ghost use Rattle.ledger_versions.specs.disk_seats.Members.{LedgerFacts};
+ghost use Rattle.reader_lines.specs.committed_lines.Seen.{AreSeen};
+ghost use Rattle.member_rooms.specs.committed_tables.Tables.{WereUsed};
 ghost use Rattle.reader_lines.specs.seen_lines.Seen.{IsOfArea, seen_by as seen_with};
 ghost use Rattle.reader_lines.specs.Readers.{IsReader as IsReaderOf};
 ghost use Rattle.disk_store.specs.declared.member.MemberStage.TheVariants as stage;

@@ -9,12 +9,12 @@ use Rattle.line_versions.specs.Files.{entries_in}
 use Rattle.line_versions.specs.Course.{Course, opened}
 use Rattle.line_versions.proofs.Steps as steps
 use Rattle.line_versions.proofs.Exact.{exact_opens, exact_begins}
-use Rattle.stable_lines.specs.Slots.{Undo, file_of, slot_of, line_at}
-use Rattle.stable_lines.specs.Progress.{Open, Progress, begun}
-use Rattle.stable_lines.specs.Facts.{IsCommitted, IsChanged, Facts}
-use Rattle.stable_lines.proofs.Turns.{some_same, going_is, going_there, going_here}
-use Rattle.line_moves.proofs.Putting.{nat_cases}
-use Rattle.line_moves.proofs.Runs.{pends}
+use Rattle.line_opening.specs.stable_lines.Slots.{Undo, file_of, slot_of, line_at}
+use Rattle.line_opening.specs.stable_lines.Progress.{Open, Progress, begun}
+use Rattle.line_opening.specs.stable_lines.Facts.{IsCommitted, IsChanged, Facts}
+use Rattle.line_opening.proofs.of_stable_lines.Turns.{some_same, going_is, going_there, going_here}
+use Rattle.line_opening.proofs.of_line_moves.Putting.{nat_cases}
+use Rattle.line_opening.proofs.of_line_moves.Runs.{pends}
 use Rattle.line_seat.specs.Seats.{next_open, secured}
 use Rattle.disk_versions.specs.Courses.{course_begun}
 use Rattle.disk_versions.specs.Versions.{IsOpenNumber, AreBases, VersionFacts}

@@ -13,14 +13,14 @@ use Rattle.line_versions.specs.Course.{Course, AreOthers, IsSettled, IsLeft}
 use Rattle.line_versions.specs.Exact.{IsOnTop}
 use Rattle.line_versions.proofs.Steps as steps
 use Rattle.line_versions.proofs.Exact.{exact_undone, exact_commits}
-use Rattle.stable_lines.specs.Slots.{Undo, file_of, slot_of, line_on, line_at}
-use Rattle.stable_lines.specs.Progress.{Open, Flight, Progress, set_going, without, flying, landed, lines_with}
-use Rattle.stable_lines.specs.Facts.{PendingContents, OnPage, IsInGroup, IsChanged, Facts}
-use Rattle.stable_lines.proofs.Laying.{found_behind}
-use Rattle.stable_lines.proofs.Turns.{some_same, going_is, going_there}
-use Rattle.line_moves.specs.Lines.{ChangedLines, ArePut}
-use Rattle.line_moves.proofs.Putting.{nat_cases}
-use Rattle.line_moves.proofs.Runs.{pends}
+use Rattle.line_opening.specs.stable_lines.Slots.{Undo, file_of, slot_of, line_on, line_at}
+use Rattle.line_opening.specs.stable_lines.Progress.{Open, Flight, Progress, set_going, without, flying, landed, lines_with}
+use Rattle.line_opening.specs.stable_lines.Facts.{PendingContents, OnPage, IsInGroup, IsChanged, Facts}
+use Rattle.line_opening.proofs.of_stable_lines.Laying.{found_behind}
+use Rattle.line_opening.proofs.of_stable_lines.Turns.{some_same, going_is, going_there}
+use Rattle.line_opening.specs.line_moves.Lines.{ChangedLines, ArePut}
+use Rattle.line_opening.proofs.of_line_moves.Putting.{nat_cases}
+use Rattle.line_opening.proofs.of_line_moves.Runs.{pends}
 use Rattle.line_opening.specs.Undoing.{AreUndone}
 use Rattle.disk_versions.specs.Courses.{without_number, course_undone, based, course_landed}
 use Rattle.disk_versions.specs.Versions.{IsOpenNumber, VersionFacts, SeatVersions}

@@ -2,7 +2,7 @@
 use Rattle.std.proofs.Common.{ℕ}
 use Rattle.rdb_outside.specs.Disk.{View}
 use Rattle.line_versions.specs.Course.{Course}
-use Rattle.stable_lines.specs.Progress.{Flight, Progress, flying, fallen}
+use Rattle.line_opening.specs.stable_lines.Progress.{Flight, Progress, flying, fallen}
 use Rattle.disk_versions.specs.Versions.{VersionFacts}
 
 pub takes_off : (v : View) (now : Progress) (limit : ℕ) (course : Course) (f : Flight) → VersionFacts v now limit course → VersionFacts v (flying f now) limit course

@@ -12,9 +12,9 @@ use Rattle.line_versions.specs.Course.{Course, IsAbove, IsChanged, IsNeeded, May
 use Rattle.line_versions.specs.Exact.{AreExact}
 use Rattle.line_versions.proofs.Steps.{entries_other}
 use Rattle.line_versions.proofs.Exact.{exact_entries, walk_ended}
-use Rattle.stable_lines.specs.Slots.{Undo, line_at}
-use Rattle.stable_lines.specs.Progress.{Progress}
-use Rattle.line_moves.specs.Lines.{ChangedLines}
+use Rattle.line_opening.specs.stable_lines.Slots.{Undo, line_at}
+use Rattle.line_opening.specs.stable_lines.Progress.{Progress}
+use Rattle.line_opening.specs.line_moves.Lines.{ChangedLines}
 use Rattle.disk_versions.specs.Courses.{course_given}
 use Rattle.disk_versions.specs.Versions.{VersionFacts, SeatVersions}
 

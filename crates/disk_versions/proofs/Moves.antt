@@ -14,12 +14,12 @@ use Rattle.line_versions.specs.Course.{Course, AreRight, IsAbove, IsChanged}
 use Rattle.line_versions.specs.Exact.{AreExact}
 use Rattle.line_versions.proofs.Steps.{entries_other, lines_other}
 use Rattle.line_versions.proofs.Exact.{exact_entries}
-use Rattle.stable_lines.specs.Slots.{Undo, line_at}
-use Rattle.stable_lines.specs.Progress.{Open, Progress}
-use Rattle.line_moves.specs.Calls.{OnlyWrites}
-use Rattle.line_moves.specs.Changes.{KeepsLines}
-use Rattle.line_moves.specs.Lines.{ChangedLines, HasLine, PutsOnly}
-use Rattle.line_moves.proofs.OnlyPut.{lines_beside}
+use Rattle.line_opening.specs.stable_lines.Slots.{Undo, line_at}
+use Rattle.line_opening.specs.stable_lines.Progress.{Open, Progress}
+use Rattle.line_opening.specs.line_moves.Calls.{OnlyWrites}
+use Rattle.line_opening.specs.line_moves.Changes.{KeepsLines}
+use Rattle.line_opening.specs.line_moves.Lines.{ChangedLines, HasLine, PutsOnly}
+use Rattle.line_opening.proofs.of_line_moves.OnlyPut.{lines_beside}
 use Rattle.line_opening.specs.Undoing.{PutsBack}
 use Rattle.disk_versions.specs.Versions.{VersionFacts, SeatVersions}
 

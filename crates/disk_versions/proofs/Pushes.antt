@@ -12,10 +12,10 @@ use Rattle.line_versions.specs.Course.{Course, IsAbove, with_entry}
 use Rattle.line_versions.proofs.Slots.{one_each, entry_held}
 use Rattle.line_versions.proofs.Steps.{is_base}
 use Rattle.line_versions.proofs.Exact.{exact_entries, ComesNew}
-use Rattle.stable_lines.specs.Slots.{Undo, IsAreaFile, line_at}
-use Rattle.stable_lines.specs.Progress.{Progress}
-use Rattle.line_moves.specs.Calls.{OnlyWrites}
-use Rattle.line_moves.specs.Lines.{ChangedLines}
+use Rattle.line_opening.specs.stable_lines.Slots.{Undo, IsAreaFile, line_at}
+use Rattle.line_opening.specs.stable_lines.Progress.{Progress}
+use Rattle.line_opening.specs.line_moves.Calls.{OnlyWrites}
+use Rattle.line_opening.specs.line_moves.Lines.{ChangedLines}
 use Rattle.disk_versions.specs.Courses.{course_pushed}
 use Rattle.disk_versions.specs.Versions.{VersionFacts, SeatVersions}
 use Rattle.disk_versions.proofs.Moves.{kept_in_slot, lines_in_slot, versions_move}

@@ -9,9 +9,9 @@ use Rattle.line_versions.specs.Course.{Course, Reading, AreActive, AreRight, IsC
 use Rattle.line_versions.specs.Exact.{AreExact}
 use Rattle.line_versions.proofs.Steps.{readers_other}
 use Rattle.line_versions.proofs.Exact.{exact_readers}
-use Rattle.stable_lines.specs.Slots.{line_at}
-use Rattle.stable_lines.specs.Progress.{Progress}
-use Rattle.line_moves.proofs.Putting.{nat_cases}
+use Rattle.line_opening.specs.stable_lines.Slots.{line_at}
+use Rattle.line_opening.specs.stable_lines.Progress.{Progress}
+use Rattle.line_opening.proofs.of_line_moves.Putting.{nat_cases}
 use Rattle.disk_versions.specs.Courses.{course_reading, course_read}
 use Rattle.disk_versions.specs.Versions.{VersionFacts}
 use Rattle.disk_versions.proofs.Choices.{chosen, passed_by}

@@ -12,12 +12,12 @@ use Rattle.line_versions.specs.Course.{Course, pushed, IsAbove, IsFirst, IsChang
 use Rattle.line_versions.proofs.Slots.{one_each}
 use Rattle.line_versions.proofs.Steps.{changed_first, changed_new}
 use Rattle.line_versions.specs.Lines.{storage_area}
-use Rattle.stable_lines.specs.Slots.{Undo, IsAreaFile, line_at}
-use Rattle.stable_lines.specs.Progress.{Progress}
-use Rattle.stable_lines.proofs.Lists.{got_either, got_one}
-use Rattle.line_moves.specs.Calls.{OnlyWrites}
-use Rattle.line_moves.specs.Lines.{ChangedLines, HasLine}
-use Rattle.line_moves.proofs.LinePut.{same_key}
+use Rattle.line_opening.specs.stable_lines.Slots.{Undo, IsAreaFile, line_at}
+use Rattle.line_opening.specs.stable_lines.Progress.{Progress}
+use Rattle.line_opening.proofs.of_stable_lines.Lists.{got_either, got_one}
+use Rattle.line_opening.specs.line_moves.Calls.{OnlyWrites}
+use Rattle.line_opening.specs.line_moves.Lines.{ChangedLines, HasLine}
+use Rattle.line_opening.proofs.of_line_moves.LinePut.{same_key}
 use Rattle.disk_versions.specs.Courses.{course_pushed}
 use Rattle.disk_versions.specs.Versions.{VersionFacts, SeatVersions, IsPushedBy, PutsIn, IsNoneOfThem}
 use Rattle.disk_versions.proofs.Moves.{kept_in_slot, lines_in_slot, seat_moves}

@@ -7,9 +7,9 @@ use Rattle.rdb_outside.specs.Disk.{View}
 use Rattle.line_view.specs.Knowledge.{Lines}
 use Rattle.line_versions.specs.Files.{entries_in}
 use Rattle.line_versions.specs.Course.{Course, IsAbove}
-use Rattle.stable_lines.specs.Slots.{Undo, line_at}
-use Rattle.line_moves.specs.Lines.{ChangedLines}
-use Rattle.line_moves.proofs.Putting.{nat_cases}
+use Rattle.line_opening.specs.stable_lines.Slots.{Undo, line_at}
+use Rattle.line_opening.specs.line_moves.Lines.{ChangedLines}
+use Rattle.line_opening.proofs.of_line_moves.Putting.{nat_cases}
 use Rattle.disk_versions.specs.Courses.{without_number, course_begun, course_undone, course_landed, course_reading, course_read}
 use Rattle.disk_versions.specs.Versions.{SeatVersions}
 use Rattle.disk_versions.proofs.Choices.{chosen, passed_by}

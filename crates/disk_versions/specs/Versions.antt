@@ -10,9 +10,9 @@ use Rattle.line_versions.specs.Versions.{snap_of}
 use Rattle.line_versions.specs.Files.{entries_in, IsWithin}
 use Rattle.line_versions.specs.Course.{Course, AreRight, IsChanged}
 use Rattle.line_versions.specs.Exact.{AreExact}
-use Rattle.stable_lines.specs.Slots.{Undo, IsAreaFile, line_at}
-use Rattle.stable_lines.specs.Progress.{Open, Progress}
-use Rattle.line_moves.specs.Lines.{ChangedLines, HasLine}
+use Rattle.line_opening.specs.stable_lines.Slots.{Undo, IsAreaFile, line_at}
+use Rattle.line_opening.specs.stable_lines.Progress.{Open, Progress}
+use Rattle.line_opening.specs.line_moves.Lines.{ChangedLines, HasLine}
 
 -- an open transaction has this number
 pub record IsOpenNumber (now : Progress) (tsn : ℕ) : Type 0 where

@@ -5,8 +5,8 @@ ghost use Rattle.line_view.specs.Knowledge.{line_in};
 ghost use Rattle.line_versions.specs.Versions.{Sees};
 ghost use Rattle.line_versions.specs.Files.{entries_in};
 ghost use Rattle.line_versions.specs.Course.{Course, Reading, AreActive, begun};
-ghost use Rattle.stable_lines.specs.Slots.{line_at};
-ghost use Rattle.stable_lines.specs.Progress.{Progress};
+ghost use Rattle.line_opening.specs.stable_lines.Slots.{line_at};
+ghost use Rattle.line_opening.specs.stable_lines.Progress.{Progress};
 ghost use Rattle.disk_versions.specs.Courses.{course_reading, course_read};
 ghost use Rattle.disk_versions.specs.Versions.{VersionFacts};
 

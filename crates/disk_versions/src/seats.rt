@@ -11,10 +11,10 @@ ghost use Rattle.line_view.specs.Knowledge.{Lines};
 ghost use Rattle.line_versions.specs.Versions.{snap_of};
 ghost use Rattle.line_versions.specs.Files.{entries_in, snap_file};
 ghost use Rattle.line_versions.specs.Course.{Course, IsFirst, pushed};
-ghost use Rattle.stable_lines.specs.Slots.{Undo, line_at};
-ghost use Rattle.stable_lines.specs.Progress.{Progress};
-ghost use Rattle.line_moves.specs.Calls.{OnlyWrites};
-ghost use Rattle.line_moves.specs.Lines.{ChangedLines, HasLine};
+ghost use Rattle.line_opening.specs.stable_lines.Slots.{Undo, line_at};
+ghost use Rattle.line_opening.specs.stable_lines.Progress.{Progress};
+ghost use Rattle.line_opening.specs.line_moves.Calls.{OnlyWrites};
+ghost use Rattle.line_opening.specs.line_moves.Lines.{ChangedLines, HasLine};
 ghost use Rattle.disk_versions.specs.Courses.{course_begun, course_given, course_landed, course_pushed, course_read, course_reading, course_undone};
 ghost use Rattle.disk_versions.specs.Versions.{IsNoneOfThem, PutsIn, SeatVersions, VersionFacts};
 

@@ -1,2 +1,3 @@
+pub use Rattle.laid_groups.specs as laid_groups
 pub mod Meeting
 pub mod Claims

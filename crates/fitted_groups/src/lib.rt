@@ -7,3 +7,4 @@ mod lines;
 
 pub use claims::{PageClaim, page_claims};
 pub use journals::{Fitted, fit_journal};
+pub use laid_groups;

@@ -7,21 +7,21 @@ use Rattle.line_view.specs.declared.need.Need.{Need}
 use Rattle.line_view.specs.Held.{Held}
 use Rattle.line_store.specs.Shelves.{Shelf}
 use Rattle.line_store.specs.Calls.{Moves}
-use Rattle.store_counts.proofs.Kept.{counted-same}
+use Rattle.stage_steps.proofs.of_store_counts.Kept.{counted-same}
 use Rattle.session_jobs.specs.Records.{Model, IsOrderly}
 use Rattle.stepped_jobs.specs.More.{KnowsMore}
-use Rattle.session_states.specs.declared.stage.Gather.TheVariants.{Locking, Reading}
-use Rattle.session_states.specs.declared.stage.Work.TheVariants.{Due, Fetching}
-use Rattle.session_states.specs.declared.stage.Stage.{Stage}
-use Rattle.session_states.specs.declared.stage.Stage.TheVariants.{Working, Gathering}
-use Rattle.session_states.specs.declared.stage.Phase.TheVariants.{Writing}
-use Rattle.session_states.specs.States.{session, writer}
-use Rattle.session_states.specs.Shared.{Shared, with_shelf}
-use Rattle.session_states.specs.Fits.{Learns}
-use Rattle.session_states.specs.Steps.{Step}
-use Rattle.session_states.proofs.Gathering.{drops-read, reads-on, reads-more-of-it}
-use Rattle.session_states.proofs.InTurn.{steps-on}
-use Rattle.session_states.proofs.Working.{reads}
+use Rattle.stage_steps.specs.session_states.declared.stage.Gather.TheVariants.{Locking, Reading}
+use Rattle.stage_steps.specs.session_states.declared.stage.Work.TheVariants.{Due, Fetching}
+use Rattle.stage_steps.specs.session_states.declared.stage.Stage.{Stage}
+use Rattle.stage_steps.specs.session_states.declared.stage.Stage.TheVariants.{Working, Gathering}
+use Rattle.stage_steps.specs.session_states.declared.stage.Phase.TheVariants.{Writing}
+use Rattle.stage_steps.specs.session_states.States.{session, writer}
+use Rattle.stage_steps.specs.session_states.Shared.{Shared, with_shelf}
+use Rattle.stage_steps.specs.session_states.Fits.{Learns}
+use Rattle.stage_steps.specs.session_states.Steps.{Step}
+use Rattle.stage_steps.proofs.of_session_states.Gathering.{drops-read, reads-on, reads-more-of-it}
+use Rattle.stage_steps.proofs.of_session_states.InTurn.{steps-on}
+use Rattle.stage_steps.proofs.of_session_states.Working.{reads}
 
 module _ (M : Model) (orderly : IsOrderly M) (s : ℕ) (c : Shared) (left : List Item) (total : ℕ) (standing : Standing) (known new : Held) (spoken waits : Bool) (item : Item) where
   module _ (g : Shelf) (n : Need) (later : List Need) (place : ℕ) (moves : Moves s (c.shelf.seat s) c.shelf g) (learns : Learns s c.shelf n known new) where

@@ -3,16 +3,16 @@ use Rattle.std.proofs.Common.{◌≡◌, ◌+◌, ℕ, List, refl, sym, subst, a
 use Rattle.std.specs.Prelude.{MatchOption}
 use Rattle.rdo_ast.specs.declared.syntax.Item.{Item}
 use Rattle.line_view.specs.declared.need.Need.{Need}
-use Rattle.session_states.specs.declared.stage.Gather.{Gather}
-use Rattle.session_states.specs.declared.stage.Gather.TheVariants.{Locking, Reading}
-use Rattle.session_states.specs.declared.stage.Work.TheVariants.{Due}
-use Rattle.session_states.specs.declared.stage.Stage.{Stage}
-use Rattle.session_states.specs.declared.stage.Stage.TheVariants.{Working, Gathering}
-use Rattle.session_states.specs.States.{session}
-use Rattle.session_measure.specs.Weights.{Beside, gather_left}
-use Rattle.session_measure.specs.Nearer.{ComesNearer}
-use Rattle.session_measure.proofs.Falling.{next-need}
-use Rattle.session_measure.proofs.Nearer.{nearer-in-round, nearer-by-place}
+use Rattle.stage_steps.specs.session_states.declared.stage.Gather.{Gather}
+use Rattle.stage_steps.specs.session_states.declared.stage.Gather.TheVariants.{Locking, Reading}
+use Rattle.stage_steps.specs.session_states.declared.stage.Work.TheVariants.{Due}
+use Rattle.stage_steps.specs.session_states.declared.stage.Stage.{Stage}
+use Rattle.stage_steps.specs.session_states.declared.stage.Stage.TheVariants.{Working, Gathering}
+use Rattle.stage_steps.specs.session_states.States.{session}
+use Rattle.stage_steps.specs.session_measure.Weights.{Beside, gather_left}
+use Rattle.stage_steps.specs.session_measure.Nearer.{ComesNearer}
+use Rattle.stage_steps.proofs.of_session_measure.Falling.{next-need}
+use Rattle.stage_steps.proofs.of_session_measure.Nearer.{nearer-in-round, nearer-by-place}
 use Rattle.stage_steps.specs.declared.terms.Terms.{Terms}
 use Rattle.stage_steps.specs.Turns.{at_stage}
 

@@ -11,15 +11,15 @@ use Rattle.line_view.specs.declared.need.Need.{Need}
 use Rattle.line_view.specs.Held.{Held}
 use Rattle.line_store.specs.Seats.{Seat, writing}
 use Rattle.line_store.specs.Sights.{bare}
-use Rattle.session_states.specs.declared.stage.Gather.{Gather}
-use Rattle.session_states.specs.declared.stage.Gather.TheVariants.{Locking}
-use Rattle.session_states.specs.declared.stage.Work.TheVariants.{Due}
-use Rattle.session_states.specs.declared.stage.Stage.{Stage}
-use Rattle.session_states.specs.declared.stage.Stage.TheVariants.{Working, Gathering}
-use Rattle.session_states.specs.declared.stage.Phase.TheVariants.{Writing}
-use Rattle.session_states.specs.Locks.{HasJournal}
-use Rattle.session_states.specs.States.{writer}
-use Rattle.session_stands.specs.Seated.{IsSeated}
+use Rattle.stage_steps.specs.session_states.declared.stage.Gather.{Gather}
+use Rattle.stage_steps.specs.session_states.declared.stage.Gather.TheVariants.{Locking}
+use Rattle.stage_steps.specs.session_states.declared.stage.Work.TheVariants.{Due}
+use Rattle.stage_steps.specs.session_states.declared.stage.Stage.{Stage}
+use Rattle.stage_steps.specs.session_states.declared.stage.Stage.TheVariants.{Working, Gathering}
+use Rattle.stage_steps.specs.session_states.declared.stage.Phase.TheVariants.{Writing}
+use Rattle.stage_steps.specs.session_states.Locks.{HasJournal}
+use Rattle.stage_steps.specs.session_states.States.{writer}
+use Rattle.stage_steps.specs.session_stands.Seated.{IsSeated}
 use Rattle.stage_steps.proofs.Seated.{rests-at}
 
 module _ (stand : ℕ → Seat) (locks : State) (s : ℕ) (standing : Standing) (known : Held) (spoken waits : Bool) (item : Item) (at : bare (stand s) ≡ writing []) (ended : opened_of locks s ≡ None) (needs : HasJournal false (needs_of locks s)) (statement : ends_by (uttered_of item) ≡ false) where

@@ -9,15 +9,15 @@ use Rattle.line_store.specs.Seats.{Seat}
 use Rattle.session_jobs.specs.Records.{Model}
 use Rattle.session_jobs.specs.Jobs.{IsFound}
 use Rattle.session_jobs.specs.declared.jobs.Found.TheVariants.{Missing}
-use Rattle.session_states.specs.declared.stage.Gather.{Gather}
-use Rattle.session_states.specs.declared.stage.Work.TheVariants.{Out}
-use Rattle.session_states.specs.declared.stage.Stage.TheVariants.{Working, Gathering}
-use Rattle.session_states.specs.declared.stage.Phase.{Phase}
-use Rattle.session_states.specs.Shared.{Shared}
-use Rattle.session_states.specs.States.{session}
-use Rattle.session_stands.specs.Seated.{IsSeated}
-use Rattle.session_measure.specs.Weights.{Beside}
-use Rattle.session_measure.specs.Nearer.{ComesNearer}
+use Rattle.stage_steps.specs.session_states.declared.stage.Gather.{Gather}
+use Rattle.stage_steps.specs.session_states.declared.stage.Work.TheVariants.{Out}
+use Rattle.stage_steps.specs.session_states.declared.stage.Stage.TheVariants.{Working, Gathering}
+use Rattle.stage_steps.specs.session_states.declared.stage.Phase.{Phase}
+use Rattle.stage_steps.specs.session_states.Shared.{Shared}
+use Rattle.stage_steps.specs.session_states.States.{session}
+use Rattle.stage_steps.specs.session_stands.Seated.{IsSeated}
+use Rattle.stage_steps.specs.session_measure.Weights.{Beside}
+use Rattle.stage_steps.specs.session_measure.Nearer.{ComesNearer}
 use Rattle.stage_steps.specs.declared.terms.Terms.{Terms}
 use Rattle.stage_steps.specs.Turns.{Comes, at_stage}
 use Rattle.gathering_steps.specs.declared.round.Round.{Round}

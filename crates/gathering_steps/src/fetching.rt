@@ -14,7 +14,7 @@ use line_view::Need;
 use rdb_types::Session;
 use rdo_ast::syntax::Item;
 use session_jobs::{Needs, Statements};
-use session_states::{Gather, Phase, Stage, Work};
+use stage_steps::session_states::{Gather, Phase, Stage, Work};
 use stage_steps::{Common, Terms, Turned, failed, forgo, quiet};
 use stepped_jobs::fetch;
 

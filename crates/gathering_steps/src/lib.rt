@@ -6,3 +6,5 @@ mod round;
 
 pub use fetching::{fetch_gathered, gather};
 pub use round::Round;
+pub use stage_steps;
+pub use stage_steps::session_states;

@@ -2,9 +2,9 @@
 use Rattle.std.proofs.Common.{ℕ, zero, suc, ◌+◌, ◌≤◌, ◌≡◌, ◌↔◌, List, [], ◌∷◌, ◌++◌, length, take, Option, Some, None, IsSome, arith, sym, ap, subst, refl, ◌∙◌}
 use Rattle.std.proofs.lemmas.List.{take-take, length-take-le}
 use Rattle.std.proofs.lemmas.Bool.Decides.{nat_tests}
-use Rattle.slot_fields.specs.Fields.{Field, number, number_at, size, HasPart, HasFrom}
-use Rattle.slot_fields.proofs.Laws.{size_append, part_first, part_append, part_before, part_of_whole, whole_of_part, whole_ends}
-use Rattle.rdb_types.specs.declared.keys.Dbkey.{Dbkey}
+use Rattle.record_format.specs.slot_fields.Fields.{Field, number, number_at, size, HasPart, HasFrom}
+use Rattle.record_format.proofs.of_slot_fields.Laws.{size_append, part_first, part_append, part_before, part_of_whole, whole_of_part, whole_ends}
+use Rattle.record_format.specs.rdb_types.declared.keys.Dbkey.{Dbkey}
 use Rattle.record_format.specs.Lists.{StandsAt}
 use Rattle.record_format.specs.Values.{value_fields, values_fields, IsValue, AreValues}
 use Rattle.record_format.specs.Dbkeys.{dbkey_fields}

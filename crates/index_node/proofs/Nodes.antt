@@ -7,8 +7,8 @@ use Rattle.std.specs.declared.cmp.Ordering.TheVariants.{Less, Equal, Greater}
 use Rattle.std.specs.Ordering.{is_lt}
 use Rattle.std.proofs.lemmas.List.Sorted.{all_adjacent_more}
 use Rattle.std.proofs.lemmas.List.Elements.{pair_read}
-use Rattle.slot_fields.specs.Fields.{size}
-use Rattle.slot_fields.proofs.Laws.{whole_ends, size_append}
+use Rattle.record_format.specs.slot_fields.Fields.{size}
+use Rattle.record_format.proofs.of_slot_fields.Laws.{whole_ends, size_append}
 use Rattle.record_format.specs.Lists.{AreListed}
 use Rattle.record_format.specs.Values.{AreBytes}
 use Rattle.record_format.proofs.Images as images

@@ -2,8 +2,8 @@
 use Rattle.std.specs.Prelude.{ℕ, ◌≤◌, ◌≡◌, ◌↔◌, List, [], ◌∷◌, ◌++◌, length, Option, Some, None, IsSome, nat_eq, if◌then◌else◌}
 use Rattle.std.specs.declared.cmp.Ordering.TheVariants.{Less}
 use Rattle.std.specs.List.{All, AllAdjacentBelow, flat_map}
-use Rattle.slot_fields.specs.Fields.{Field, number, gap, Has, size}
-use Rattle.rdb_types.specs.declared.keys.Dbkey.{Dbkey}
+use Rattle.record_format.specs.slot_fields.Fields.{Field, number, gap, Has, size}
+use Rattle.record_format.specs.rdb_types.declared.keys.Dbkey.{Dbkey}
 use Rattle.record_format.specs.Values.{values_fields, IsValue}
 use Rattle.record_format.specs.Dbkeys.{dbkey_fields}
 use Rattle.index_node.specs.declared.entry.NodeEntry.{NodeEntry}

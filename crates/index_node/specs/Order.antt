@@ -1,7 +1,7 @@
 -- The order of entries.
 use Rattle.std.specs.declared.cmp.Ordering.{Ordering}
 use Rattle.std.specs.Ordering.{ordering_then}
-use Rattle.rdb_types.specs.Order.{row_order, dbkey_order}
+use Rattle.record_format.specs.rdb_types.Order.{row_order, dbkey_order}
 use Rattle.index_node.specs.declared.entry.NodeEntry.{NodeEntry}
 
 -- by their keys, and equal keys by their rows

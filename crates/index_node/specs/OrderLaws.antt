@@ -1,7 +1,7 @@
 -- Entries are in a total order.
 use Rattle.std.proofs.lemmas.Cmp.{on_total, then_total}
 use Rattle.std.specs.Cmp.{IsTotalOrder}
-use Rattle.rdb_types.specs.OrderLaws.{row_total, dbkey_total}
+use Rattle.record_format.specs.rdb_types.OrderLaws.{row_total, dbkey_total}
 use Rattle.index_node.specs.declared.entry.NodeEntry.{NodeEntry}
 use Rattle.index_node.specs.Order.{entry_order}
 

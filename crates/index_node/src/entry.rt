@@ -1,14 +1,14 @@
 // The entries of nodes.
 ghost use Rattle.std.specs.Prelude.{◌≡◌, ◌≤◌, ◌<◌, ◌+◌, ◌^◌, ◌↔◌, ℕ, true, false, Some, length, take, drop, IfSome, IfNone, IfOk, IsSome};
 ghost use Rattle.std.specs.List.{All};
-ghost use Rattle.slot_fields.specs.Fields.{laid, size, Fit, HasPart};
+ghost use Rattle.record_format.specs.slot_fields.Fields.{laid, size, Fit, HasPart};
 ghost use Rattle.record_format.specs.Values.{values_fields, IsValue};
 ghost use Rattle.record_format.specs.Lists.{StandsAt};
 ghost use Rattle.index_node.specs.Node.{child_fields, child_bytes, entry_fields, IsEntry};
 
-use rdb_types::{Dbkey, NoMemory, Row};
+use record_format::rdb_types::{Dbkey, NoMemory, Row};
+use record_format::slot_fields::{put_u8, u8_at};
 use record_format::{are_storable, dbkey_at, put_dbkey, put_values, read_values, values_size};
-use slot_fields::{put_u8, u8_at};
 use std::alloc::Global;
 
 /// An entry of a node: a key, the Dbkey of a row that has it, and in an inner node the Dbkey of a child, whose entries are not below this one.

@@ -10,3 +10,5 @@ pub use node::{
     IndexNode, entries_size, is_allowed_node, one_image, one_node, put_node, read_node,
 };
 pub use order::{entries_are_ordered, entry_order};
+pub use record_format;
+pub use record_format::rdb_types;

@@ -39,7 +39,7 @@ use Rattle.relation_rows.specs.Indexed.{IsIndexOf}
 use Rattle.sound_changes.specs.Standing.{IsSoundAs}
 use Rattle.sound_changes.proofs.Basics.{all_of}
 use Rattle.sound_changes.proofs.RowsInOrder.{rows_in_order}
-use Rattle.sound_statements.proofs.Indexes.{index_defined}
+use Rattle.schema_writes.proofs.of_sound_statements.Indexes.{index_defined}
 use Rattle.statement_view.specs.Over.{Over, laid_over, knows_over, all_rooms, AreRoomsKnown}
 use Rattle.row_writes.specs.Rows.{IsSoundView}
 use Rattle.schema_writes.specs.declared.stop.SchemaRefusal.TheVariants.{Refused, NoRoom, Full}

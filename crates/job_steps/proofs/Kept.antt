@@ -14,7 +14,7 @@ use Rattle.rdb_types.specs.declared.node.Level.TheVariants.{Area}
 use Rattle.lock_needs.specs.declared.need.Need.{Need}
 use Rattle.lock_needs.specs.Needs.{is_plain, is_plain_at}
 use Rattle.lock_needs.specs.Nodes.{is_on}
-use Rattle.line_steps.specs.Images.{journal_node}
+use Rattle.gathering_steps.specs.line_steps.Images.{journal_node}
 use Rattle.line_view.specs.Held.{knows}
 use Rattle.session_jobs.specs.Records.{Model, IsOrderly}
 use Rattle.session_jobs.specs.Jobs.{IsFound, IsLacking, WhereItAgrees}
@@ -24,12 +24,12 @@ use Rattle.line_view.specs.declared.need.Need.{Need as LineNeed}
 use Rattle.reserved_locks.specs.declared.locks.Unnamed.TheVariants.{Lacking}
 use Rattle.reserved_locks.specs.Reserved.{AreLocksOf, AreOnAreas, IsUnnamed}
 use Rattle.reserved_locks.proofs.Asked.{locks-asked}
-use Rattle.session_states.specs.declared.stage.Work.TheVariants.{Out}
-use Rattle.session_states.specs.declared.stage.Stage.TheVariants.{Working, Reserving}
-use Rattle.session_states.specs.Shared.{Shared}
-use Rattle.session_states.proofs.Reserving.{reserves-on}
-use Rattle.stage_steps.specs.declared.terms.Terms.{Terms}
-use Rattle.stage_steps.specs.Turns.{Comes, at_stage}
+use Rattle.gathering_steps.specs.session_states.declared.stage.Work.TheVariants.{Out}
+use Rattle.gathering_steps.specs.session_states.declared.stage.Stage.TheVariants.{Working, Reserving}
+use Rattle.gathering_steps.specs.session_states.Shared.{Shared}
+use Rattle.gathering_steps.proofs.of_session_states.Reserving.{reserves-on}
+use Rattle.gathering_steps.specs.stage_steps.declared.terms.Terms.{Terms}
+use Rattle.gathering_steps.specs.stage_steps.Turns.{Comes, at_stage}
 use Rattle.job_steps.specs.Reserved.{IsReserved}
 
 module _ (M : Model) (orderly : IsOrderly M) where

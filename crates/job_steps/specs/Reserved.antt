@@ -12,10 +12,10 @@ use Rattle.line_view.specs.Held.{knows}
 use Rattle.session_jobs.specs.Jobs.{WhereItAgrees}
 use Rattle.session_jobs.specs.Records.{Model}
 use Rattle.reserved_locks.specs.Reserved.{AreOnAreas}
-use Rattle.session_states.specs.declared.stage.Phase.{Phase}
-use Rattle.session_states.specs.declared.stage.Stage.TheVariants as stage
-use Rattle.stage_steps.specs.declared.terms.Terms.{Terms}
-use Rattle.stage_steps.specs.Turns.{at_stage}
+use Rattle.gathering_steps.specs.session_states.declared.stage.Phase.{Phase}
+use Rattle.gathering_steps.specs.session_states.declared.stage.Stage.TheVariants as stage
+use Rattle.gathering_steps.specs.stage_steps.declared.terms.Terms.{Terms}
+use Rattle.gathering_steps.specs.stage_steps.Turns.{at_stage}
 use Rattle.job_steps.specs.declared.reserving.Reserving.{Reserving}
 
 -- The item begins a transaction, and its reservations ask for each of these locks, on areas, over all that agrees with what is known.

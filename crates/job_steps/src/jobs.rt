@@ -4,21 +4,21 @@ ghost use Rattle.rdo_ast.specs.Views.{uttered_of};
 ghost use Rattle.line_store.specs.Seats.{IsMember, IsWriting};
 ghost use Rattle.line_view.specs.Held.{knows};
 ghost use Rattle.session_jobs.specs.Jobs.{IsFound};
-ghost use Rattle.session_states.specs.declared.stage.Stage.TheVariants.{Working};
-ghost use Rattle.session_states.specs.declared.stage.Work.TheVariants.{Out};
-ghost use Rattle.stage_steps.specs.Leaving.{NamesBad, OnUnworked};
-ghost use Rattle.stage_steps.specs.Scenes.{ComesIn, scene};
-ghost use Rattle.stage_steps.specs.Turns.{at_stage};
+ghost use Rattle.gathering_steps.specs.session_states.declared.stage.Stage.TheVariants.{Working};
+ghost use Rattle.gathering_steps.specs.session_states.declared.stage.Work.TheVariants.{Out};
+ghost use Rattle.gathering_steps.specs.stage_steps.Leaving.{NamesBad, OnUnworked};
+ghost use Rattle.gathering_steps.specs.stage_steps.Scenes.{ComesIn, scene};
+ghost use Rattle.gathering_steps.specs.stage_steps.Turns.{at_stage};
 
 use crate::reserving::keep;
 use gathering_steps::gather;
+use gathering_steps::session_states::{Stage, Work};
+use gathering_steps::stage_steps::{Common, Happening, Terms, Turned, forgo, quiet};
 use line_store::LineStore;
 use rdb_types::{Copied, Session};
 use rdo_ast::syntax::Item;
 use reserved_locks::Reserves;
 use session_jobs::{Found, Job, Outcome};
-use session_states::{Stage, Work};
-use stage_steps::{Common, Happening, Terms, Turned, forgo, quiet};
 
 /// Takes what a job came to: a record is kept till it is said, what the job lacked is wanted in turn, and want of memory is answered.
 /// Where it was left unworked, or calls a line bad, its job is due again, and the session has to stop.

@@ -4,5 +4,6 @@
 mod jobs;
 mod reserving;
 
+pub use gathering_steps::{session_states, stage_steps};
 pub use jobs::{compute, take_found};
 pub use reserving::{Reserving, want_reserved};

@@ -8,13 +8,15 @@ ghost use Rattle.lock_tree_laws.specs.Forest.{opened_of};
 ghost use Rattle.line_view.specs.declared.need.Need.{Need as LineNeed};
 ghost use Rattle.session_jobs.specs.Jobs.{IsFound, IsLacking, WhereItAgrees};
 ghost use Rattle.reserved_locks.specs.Reserved.{AreOnAreas};
-ghost use Rattle.session_states.specs.Fits.{WantsAtMost};
-ghost use Rattle.stage_steps.specs.Leaving.{OnUnworked};
-ghost use Rattle.stage_steps.specs.Scenes.{ComesIn, scene};
-ghost use Rattle.stage_steps.specs.Turns.{at_stage};
+ghost use Rattle.gathering_steps.specs.session_states.Fits.{WantsAtMost};
+ghost use Rattle.gathering_steps.specs.stage_steps.Leaving.{OnUnworked};
+ghost use Rattle.gathering_steps.specs.stage_steps.Scenes.{ComesIn, scene};
+ghost use Rattle.gathering_steps.specs.stage_steps.Turns.{at_stage};
 ghost use Rattle.job_steps.specs.Reserved.{IsReserved, reserves_at};
 
 use gathering_steps::gather;
+use gathering_steps::session_states::{Laying, Stage, Work};
+use gathering_steps::stage_steps::{Common, Terms, Turned, forgo, quiet, want};
 use line_store::LineStore;
 use lock_needs::Need;
 use rdb_types::Session;
@@ -22,8 +24,6 @@ use rdo_ast::reply::{Reply, Standing};
 use rdo_ast::syntax::{Item, Statement};
 use reserved_locks::{LockNeeds, Reserves, Unnamed};
 use session_jobs::{Found, Needs, Statements, TxRecord};
-use session_states::{Laying, Stage, Work};
-use stage_steps::{Common, Terms, Turned, forgo, quiet, want};
 use std::alloc::Global;
 
 /// A START_TRANSACTION that was worked, with the locks that its reservations ask for, of which those before the place are got.

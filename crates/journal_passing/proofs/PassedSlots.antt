@@ -3,11 +3,11 @@ use Rattle.std.proofs.Common.{◌≡◌, ℕ, ◌+◌, ◌≤◌, List, Option, 
 use Rattle.rdb_types.specs.declared.file.FileId.{FileId}
 use Rattle.rdb_types.specs.File.{slot_bytes}
 use Rattle.rdb_outside.specs.Disk.{Image}
-use Rattle.journal_scan.specs.declared.group.Group.{Group}
-use Rattle.journal_scan.specs.declared.scan.Scan.{Scan}
-use Rattle.journal_scan.specs.Whole.{count_of, slots_of, IsWhole}
-use Rattle.journal_scan.specs.Reading.{begins_at, read as read_slot}
-use Rattle.journal_scan.specs.Standing.{what_stands}
+use Rattle.journal_reading.specs.journal_scan.declared.group.Group.{Group}
+use Rattle.journal_reading.specs.journal_scan.declared.scan.Scan.{Scan}
+use Rattle.journal_reading.specs.journal_scan.Whole.{count_of, slots_of, IsWhole}
+use Rattle.journal_reading.specs.journal_scan.Reading.{begins_at, read as read_slot}
+use Rattle.journal_reading.specs.journal_scan.Standing.{what_stands}
 use Rattle.journal_reading.specs.Journal.{EndsBy, standing}
 use Rattle.journal_reading.proofs.OneGroup.{HasRead, nothing_read, one_more, one_found, none_where_ended, none_at_end}
 use Rattle.journal_passing.specs.Passing.{passed_by}

@@ -1,16 +1,16 @@
 -- What is passed without its lines is what a scan reads with them.
 use Rattle.std.proofs.Common.{◌≡◌, ℕ, ◌+◌, ◌-◌, ◌==◌, ◌&&◌, nat_lt, Bool, true, false, if◌then◌else◌, List, [], ◌∷◌, ◌++◌, length, length-append, Option, Some, None, slice_get, refl, sym, ◌∙◌, ap, subst}
 use Rattle.rdb_types.specs.declared.keys.Dbkey.{Dbkey}
-use Rattle.aij_journal.specs.declared.part.GroupLine.{GroupLine}
-use Rattle.aij_journal.specs.declared.part.AijPart.{AijPart}
-use Rattle.journal_scan.specs.declared.group.Group.{Group}
-use Rattle.journal_scan.specs.declared.scan.Begun.{Begun}
-use Rattle.journal_scan.specs.declared.scan.Scan.{Scan}
-use Rattle.journal_scan.specs.declared.scan.Stage.{Stage}
-use Rattle.journal_scan.specs.declared.scan.Stage.TheVariants.{Between, Within, Ended}
-use Rattle.journal_scan.specs.Whole.{is_above}
-use Rattle.journal_scan.specs.Reading.{begins_at, read, read_part, continued as continued_with, grown as grown_with, closed as closed_with, ended, closes, grows_by, is_next as is_next_of, no_lines as begun_without, with_line}
-use Rattle.journal_scan.proofs.Written.{last_pushed}
+use Rattle.journal_reading.specs.aij_journal.declared.part.GroupLine.{GroupLine}
+use Rattle.journal_reading.specs.aij_journal.declared.part.AijPart.{AijPart}
+use Rattle.journal_reading.specs.journal_scan.declared.group.Group.{Group}
+use Rattle.journal_reading.specs.journal_scan.declared.scan.Begun.{Begun}
+use Rattle.journal_reading.specs.journal_scan.declared.scan.Scan.{Scan}
+use Rattle.journal_reading.specs.journal_scan.declared.scan.Stage.{Stage}
+use Rattle.journal_reading.specs.journal_scan.declared.scan.Stage.TheVariants.{Between, Within, Ended}
+use Rattle.journal_reading.specs.journal_scan.Whole.{is_above}
+use Rattle.journal_reading.specs.journal_scan.Reading.{begins_at, read, read_part, continued as continued_with, grown as grown_with, closed as closed_with, ended, closes, grows_by, is_next as is_next_of, no_lines as begun_without, with_line}
+use Rattle.journal_reading.proofs.of_journal_scan.Written.{last_pushed}
 use Rattle.journal_passing.specs.Passing.{is_behind, passed_what, continued, begun_by, passed_by}
 use Rattle.journal_passing.specs.declared.passing.PassedGroup.{PassedGroup}
 use Rattle.journal_passing.specs.declared.passing.Passing.{Passing}

@@ -2,8 +2,8 @@
 use Rattle.std.specs.Prelude.{ℕ, ◌≡◌, length}
 use Rattle.rdb_types.specs.declared.file.FileId.{FileId}
 use Rattle.rdb_outside.specs.Disk.{Image}
-use Rattle.journal_scan.specs.declared.group.Group.{Group}
-use Rattle.journal_scan.specs.Whole.{count_of, slots_of, IsWhole}
+use Rattle.journal_reading.specs.journal_scan.declared.group.Group.{Group}
+use Rattle.journal_reading.specs.journal_scan.Whole.{count_of, slots_of, IsWhole}
 use Rattle.journal_reading.specs.Journal.{standing}
 use Rattle.journal_passing.specs.declared.passing.PassedGroup.{PassedGroup}
 

@@ -3,8 +3,8 @@ use Rattle.std.specs.Prelude.{ℕ, ◌+◌, ◌==◌, ◌&&◌, nat_lt, Bool, tr
 use Rattle.std.specs.Ordering.{is_lt}
 use Rattle.rdb_types.specs.declared.keys.Dbkey.{Dbkey}
 use Rattle.rdb_types.specs.Order.{dbkey_order}
-use Rattle.aij_journal.specs.declared.part.GroupLine.{GroupLine}
-use Rattle.aij_journal.specs.declared.part.AijPart.{AijPart}
+use Rattle.journal_reading.specs.aij_journal.declared.part.GroupLine.{GroupLine}
+use Rattle.journal_reading.specs.aij_journal.declared.part.AijPart.{AijPart}
 use Rattle.journal_passing.specs.declared.passing.Passing.{Passing}
 use Rattle.journal_passing.specs.declared.passing.Passed.{Passed}
 use Rattle.journal_passing.specs.declared.passing.Passed.TheVariants.{More, Whole, Broken}

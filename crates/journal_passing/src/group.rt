@@ -1,8 +1,8 @@
 // A journal passed group by group.
 ghost use Rattle.std.specs.Prelude.{◌≡◌, ◌≢◌, ◌≤◌, ◌+◌, Some, None, IfOk, IsErr, IsTrue};
 ghost use Rattle.rdb_types.specs.File.{slot_bytes};
-ghost use Rattle.journal_scan.specs.declared.group.Group.{Group as Written};
-ghost use Rattle.journal_scan.specs.Whole.{count_of, slots_of, IsWhole};
+ghost use Rattle.journal_reading.specs.journal_scan.declared.group.Group.{Group as Written};
+ghost use Rattle.journal_reading.specs.journal_scan.Whole.{count_of, slots_of, IsWhole};
 ghost use Rattle.rdb_outside.specs.Causes.{Rose};
 ghost use Rattle.rdb_outside.specs.Disk.{OnlyReads};
 ghost use Rattle.journal_reading.specs.Journal.{EndsBy, standing};

@@ -5,4 +5,6 @@ mod group;
 mod passing;
 
 pub use group::pass_group;
+pub use journal_reading;
+pub use journal_reading::aij_journal;
 pub use passing::PassedGroup;

@@ -1,10 +1,10 @@
 -- Reading from a slot on, up to the end of one group.
 use Rattle.std.proofs.Common.{if◌then◌else◌, ◌≡◌, ℕ, zero, suc, ◌+◌, ◌≤◌, ◌==◌, ◌&&◌, Bool, true, false, List, [], ◌∷◌, ◌++◌, length, length-append, append-nil, Option, Some, None, refl, sym, ◌∙◌, ap, subst, ◌⊎◌, inl, inr, ⊎_elim, arith}
-use Rattle.rdb_types.specs.declared.file.FileId.{FileId}
-use Rattle.rdb_types.specs.File.{slot_bytes}
+use Rattle.rdb_outside.specs.rdb_types.declared.file.FileId.{FileId}
+use Rattle.rdb_outside.specs.rdb_types.File.{slot_bytes}
 use Rattle.rdb_outside.specs.Disk.{Image}
-use Rattle.aij_journal.specs.declared.part.GroupLine.{GroupLine}
-use Rattle.aij_journal.specs.declared.part.AijPart.{AijPart}
+use Rattle.journal_scan.specs.aij_journal.declared.part.GroupLine.{GroupLine}
+use Rattle.journal_scan.specs.aij_journal.declared.part.AijPart.{AijPart}
 use Rattle.journal_scan.specs.declared.group.Group.{Group}
 use Rattle.journal_scan.specs.declared.scan.Begun.{Begun}
 use Rattle.journal_scan.specs.declared.scan.Scan.{Scan}

@@ -2,12 +2,12 @@
 use Rattle.std.proofs.Common.{◌≡◌, ℕ, zero, suc, ◌+◌, ◌-◌, ◌≤◌, List, [], ◌∷◌, ◌++◌, add-zero, zero-add, replicate, length, Option, None, refl, sym, ◌∙◌, ap, subst, inl, inr, IsTrue, arith}
 use Rattle.std.specs.List.{flat_map}
 use Rattle.std.proofs.lemmas.Bool.{cases_lt}
-use Rattle.rdb_types.specs.declared.file.FileId.{FileId}
-use Rattle.rdb_types.specs.File.{slot_bytes}
+use Rattle.rdb_outside.specs.rdb_types.declared.file.FileId.{FileId}
+use Rattle.rdb_outside.specs.rdb_types.File.{slot_bytes}
 use Rattle.rdb_outside.specs.Disk.{Image, View, OnlyReads}
-use Rattle.aij_journal.specs.declared.part.AijPart.{AijPart}
-use Rattle.aij_journal.specs.Part.{IsPart}
-use Rattle.slot_fields.proofs.Laws.{word_not_zeros}
+use Rattle.journal_scan.specs.aij_journal.declared.part.AijPart.{AijPart}
+use Rattle.journal_scan.specs.aij_journal.Part.{IsPart}
+use Rattle.journal_scan.proofs.of_slot_fields.Laws.{word_not_zeros}
 use Rattle.journal_scan.specs.declared.scan.Scan.{Scan}
 use Rattle.journal_scan.specs.declared.scan.Stage.TheVariants.{Between, Within, Ended}
 use Rattle.journal_scan.specs.declared.scan.Stage.{Stage}

@@ -1,8 +1,8 @@
 -- What stands in the slots of a journal on a disk.
 use Rattle.std.specs.Prelude.{ℕ, zero, suc, ◌+◌, ◌≤◌, ◌≡◌, ◌⊎◌, List, [], ◌∷◌, map, Option}
-use Rattle.rdb_types.specs.declared.file.FileId.{FileId}
+use Rattle.rdb_outside.specs.rdb_types.declared.file.FileId.{FileId}
 use Rattle.rdb_outside.specs.Disk.{Image, zeros}
-use Rattle.aij_journal.specs.declared.part.AijPart.{AijPart}
+use Rattle.journal_scan.specs.aij_journal.declared.part.AijPart.{AijPart}
 use Rattle.journal_scan.specs.declared.scan.Scan.{Scan}
 use Rattle.journal_scan.specs.declared.scan.Stage.TheVariants.{Ended}
 use Rattle.journal_scan.specs.Reading.{begins_at, read_all}

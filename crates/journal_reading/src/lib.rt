@@ -6,5 +6,7 @@ mod reading;
 #[cfg(test)]
 mod tests;
 
+pub use journal_scan::aij_journal;
 pub use one_group::group_at;
+pub use rdb_outside;
 pub use reading::{AijFault, first_number, scan};

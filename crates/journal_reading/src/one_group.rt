@@ -1,6 +1,6 @@
 // A journal read group by group.
 ghost use Rattle.std.specs.Prelude.{◌≡◌, ◌≢◌, ◌≤◌, ◌+◌, ℕ, Some, None, IfOk, IsErrOf, IsTrue};
-ghost use Rattle.rdb_types.specs.File.{slot_bytes};
+ghost use Rattle.rdb_outside.specs.rdb_types.File.{slot_bytes};
 ghost use Rattle.journal_scan.specs.declared.group.Group.{Group as Written};
 ghost use Rattle.journal_scan.specs.Whole.{count_of, slots_of, IsWhole};
 ghost use Rattle.rdb_outside.specs.Causes.{Rose};
@@ -10,7 +10,7 @@ ghost use Rattle.journal_reading.specs.Journal.{EndsBy, standing};
 use crate::AijFault;
 use journal_scan::{Group, Scan, Turn};
 use rdb_outside::Disk;
-use rdb_types::FileId;
+use rdb_outside::rdb_types::FileId;
 use std::alloc::Global;
 
 /// The whole group of this number whose slots begin at this slot. From `end` on the file has no more, as `Disk::length` tells. Asked behind the header for the first group, and behind each for the next, it reads a journal with no more than one group in memory. The time grows as the slots that are read.

@@ -1,17 +1,17 @@
 // A journal from its header on, up to its last whole group.
 ghost use Rattle.std.specs.Prelude.{◌≡◌, ◌≤◌, ◌<◌, ◌+◌, ◌⊎◌, ℕ, length, IfOk, OnOk, IsOk, IsErrOf, IsTrue};
 ghost use Rattle.std.specs.List.{flat_map};
-ghost use Rattle.rdb_types.specs.File.{slot_bytes};
-ghost use Rattle.aij_journal.specs.Header.{IsHeader};
+ghost use Rattle.rdb_outside.specs.rdb_types.File.{slot_bytes};
+ghost use Rattle.journal_scan.specs.aij_journal.Header.{IsHeader};
 ghost use Rattle.journal_scan.specs.Whole.{slots_of, AreGroups};
 ghost use Rattle.rdb_outside.specs.Causes.{Rose};
 ghost use Rattle.rdb_outside.specs.Disk.{OnlyReads};
 ghost use Rattle.journal_reading.specs.Journal.{EndsBy, standing, IsReadUpTo};
 
-use aij_journal::read_header;
+use journal_scan::aij_journal::read_header;
 use journal_scan::{Scan, Turn};
+use rdb_outside::rdb_types::{FileId, NoMemory};
 use rdb_outside::{Disk, Failed};
-use rdb_types::{FileId, NoMemory};
 use std::alloc::Global;
 
 /// Why a journal wasn't read: a device call failed, slot 0 is no header, or memory was wanted.

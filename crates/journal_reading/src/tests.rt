@@ -1,10 +1,10 @@
 ghost use Rattle.std.specs.Prelude.{◌<◌, length};
-ghost use Rattle.aij_journal.specs.Part.{IsAllowedWhat};
+ghost use Rattle.journal_scan.specs.aij_journal.Part.{IsAllowedWhat};
 
 use crate::{AijFault, scan};
-use aij_journal::{AijPart, GroupLine, put_header, put_slot};
+use journal_scan::aij_journal::{AijPart, GroupLine, put_header, put_slot};
+use rdb_outside::rdb_types::{Dbkey, FileId, FileKind, Image, LineState, NoMemory, Tsn};
 use rdb_outside::{Disk, Failed, MemoryDisk};
-use rdb_types::{Dbkey, FileId, FileKind, Image, LineState, NoMemory, Tsn};
 use std::alloc::Global;
 use std::test::Fail;
 

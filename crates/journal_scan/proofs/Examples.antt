@@ -1,6 +1,6 @@
 -- Small journals, and the whole groups that stand in them.
 use Rattle.std.proofs.Common.{◌≡◌, ℕ, List, [], ◌∷◌, ◌++◌, Option, Some, None, refl}
-use Rattle.rdb_types.specs.declared.keys.LineState.TheVariants.{Present}
+use Rattle.aij_journal.specs.rdb_types.declared.keys.LineState.TheVariants.{Present}
 use Rattle.aij_journal.specs.declared.part.GroupLine.{GroupLine}
 use Rattle.aij_journal.specs.declared.part.AijPart.{AijPart}
 use Rattle.journal_scan.specs.declared.group.Group.{Group}

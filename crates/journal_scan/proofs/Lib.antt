@@ -1,3 +1,4 @@
+pub use Rattle.aij_journal.proofs.of_slot_fields as of_slot_fields
 pub mod Steps
 pub mod Stands
 pub mod Written

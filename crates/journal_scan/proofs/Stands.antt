@@ -1,11 +1,11 @@
 -- What is computed from a slot's bytes stands there.
 use Rattle.std.proofs.Common.{◌≡◌, ℕ, ◌+◌, ◌^◌, ◌==◌, ◌&&◌, ◌||◌, nat_le, nat_lt, true, false, List, [], ◌∷◌, length, take, drop, replicate, map, Option, Some, None, if◌then◌else◌, refl, sym, ◌∙◌, ap, subst, inl, inr}
 use Rattle.std.proofs.lemmas.Bool.{eqb-true, eq-eqb, leb-true, le-leb, ltb-true, lt-ltb, and_parts, and_from, or_cases, both_ways}
-use Rattle.slot_fields.specs.Fields.{Field, number, text, gap, number_at, HasFrom}
-use Rattle.rdb_types.specs.declared.keys.LineState.{LineState}
-use Rattle.rdb_types.specs.declared.keys.LineState.TheVariants.{Never, Present, Erased}
-use Rattle.rdb_page.specs.Lines.{byte_of}
-use Rattle.rdb_page.specs.Page.{IsClass}
+use Rattle.aij_journal.specs.slot_fields.Fields.{Field, number, text, gap, number_at, HasFrom}
+use Rattle.aij_journal.specs.rdb_types.declared.keys.LineState.{LineState}
+use Rattle.aij_journal.specs.rdb_types.declared.keys.LineState.TheVariants.{Never, Present, Erased}
+use Rattle.aij_journal.specs.rdb_page.Lines.{byte_of}
+use Rattle.aij_journal.specs.rdb_page.Page.{IsClass}
 use Rattle.aij_journal.specs.declared.part.GroupLine.{GroupLine}
 use Rattle.aij_journal.specs.declared.part.AijPart.{AijPart}
 use Rattle.aij_journal.specs.Part.{IsPart, IsAllowedWhat, LeavesLine, part_fields, what_fields}

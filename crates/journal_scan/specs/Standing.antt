@@ -1,8 +1,8 @@
 -- What stands in a slot, computed from its bytes.
 use Rattle.std.specs.Prelude.{ℕ, ◌+◌, ◌^◌, ◌==◌, ◌&&◌, ◌||◌, nat_le, nat_lt, Bool, true, false, List, [], ◌∷◌, length, take, drop, replicate, map, Option, Some, None, if◌then◌else◌}
-use Rattle.slot_fields.specs.Fields.{Field, number, text, gap, number_at}
-use Rattle.rdb_types.specs.declared.keys.LineState.{LineState}
-use Rattle.rdb_types.specs.declared.keys.LineState.TheVariants.{Never, Present, Erased}
+use Rattle.aij_journal.specs.slot_fields.Fields.{Field, number, text, gap, number_at}
+use Rattle.aij_journal.specs.rdb_types.declared.keys.LineState.{LineState}
+use Rattle.aij_journal.specs.rdb_types.declared.keys.LineState.TheVariants.{Never, Present, Erased}
 use Rattle.aij_journal.specs.declared.part.GroupLine.{GroupLine}
 use Rattle.aij_journal.specs.declared.part.AijPart.{AijPart}
 use Rattle.aij_journal.specs.Part.{part_fields}

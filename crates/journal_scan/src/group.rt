@@ -1,5 +1,5 @@
 use aij_journal::GroupLine;
-use rdb_types::{Items, Tsn};
+use aij_journal::rdb_types::{Items, Tsn};
 
 /// Lines as a commit leaves them, in the order of their Dbkeys.
 pub type GroupLines = Items<GroupLine>;

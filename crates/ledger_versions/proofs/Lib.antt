@@ -1,3 +1,4 @@
+pub use Rattle.disk_seats.proofs as of_disk_seats
 pub mod Standings
 pub mod Restanding
 pub mod MembersEnd

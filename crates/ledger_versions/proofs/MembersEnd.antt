@@ -12,13 +12,13 @@ use Rattle.stable_lines.specs.Slots.{Undo, file_of, slot_of, line_at}
 use Rattle.stable_lines.specs.Progress.{Open, Flight, Progress, begun, without, flying, landed, lines_with}
 use Rattle.stable_lines.specs.Facts.{Facts}
 use Rattle.stable_lines.proofs.Turns.{some_same, going_here, going_there}
-use Rattle.line_moves.specs.Lines.{ChangedLines}
-use Rattle.line_moves.proofs.Runs.{pends}
-use Rattle.line_opening.specs.Undoing.{AreUndone}
-use Rattle.line_seat.specs.declared.commit.CommitStage.{CommitStage}
-use Rattle.line_seat.specs.declared.commit.CommitStage.TheVariants.{Changing, Imaging, Gathering, Sealing, Landing, Committed}
-use Rattle.line_seat.specs.Seats.{next_open, secured}
-use Rattle.line_seat.specs.Stages.{progress_at}
+use Rattle.disk_seats.specs.line_moves.Lines.{ChangedLines}
+use Rattle.disk_seats.proofs.of_line_moves.Runs.{pends}
+use Rattle.disk_seats.specs.line_opening.Undoing.{AreUndone}
+use Rattle.disk_seats.specs.line_seat.declared.commit.CommitStage.{CommitStage}
+use Rattle.disk_seats.specs.line_seat.declared.commit.CommitStage.TheVariants.{Changing, Imaging, Gathering, Sealing, Landing, Committed}
+use Rattle.disk_seats.specs.line_seat.Seats.{next_open, secured}
+use Rattle.disk_seats.specs.line_seat.Stages.{progress_at}
 use Rattle.disk_seats.specs.Ledgers.{Standing, resting, changing, broken, committing, undoing, entries_of, Commit, Ledger, flies, progress_with, progress_of, begun_by, ended_by, taken_up, landed_at}
 use Rattle.disk_seats.specs.Members.{MemberStands, CommitStands, LedgerFacts}
 use Rattle.disk_versions.specs.Courses.{course_begun, course_given, course_undone, course_landed}

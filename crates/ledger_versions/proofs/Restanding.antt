@@ -8,12 +8,12 @@ use Rattle.line_versions.specs.Course.{Course}
 use Rattle.stable_lines.specs.Slots.{Undo, line_at}
 use Rattle.stable_lines.specs.Progress.{Open, Progress}
 use Rattle.stable_lines.specs.History.{History}
-use Rattle.line_moves.specs.Changes.{KeepsLines}
-use Rattle.line_moves.specs.Lines.{ChangedLines, AreDistinct, ArePut, HasLine, PutsOnly}
-use Rattle.line_moves.proofs.Putting.{nat_cases}
-use Rattle.line_opening.specs.Undoing.{PutsBack}
-use Rattle.line_seat.specs.declared.commit.CommitStage.{CommitStage}
-use Rattle.line_seat.specs.declared.commit.CommitStage.TheVariants.{Changing, Imaging, Gathering, Sealing, Landing, Committed}
+use Rattle.disk_seats.specs.line_moves.Changes.{KeepsLines}
+use Rattle.disk_seats.specs.line_moves.Lines.{ChangedLines, AreDistinct, ArePut, HasLine, PutsOnly}
+use Rattle.disk_seats.proofs.of_line_moves.Putting.{nat_cases}
+use Rattle.disk_seats.specs.line_opening.Undoing.{PutsBack}
+use Rattle.disk_seats.specs.line_seat.declared.commit.CommitStage.{CommitStage}
+use Rattle.disk_seats.specs.line_seat.declared.commit.CommitStage.TheVariants.{Changing, Imaging, Gathering, Sealing, Landing, Committed}
 use Rattle.disk_seats.specs.Ledgers.{Standing, resting, changing, broken, committing, undoing, entries_of, gained, Commit, Ledger, flies, again, new_ledger, set_standing, stands_as}
 use Rattle.disk_versions.specs.Versions.{VersionFacts, SeatVersions}
 use Rattle.disk_versions.proofs.Choices.{chosen, passed_by}

@@ -7,10 +7,10 @@ use Rattle.stable_lines.specs.Slots.{Undo, file_of, slot_of, line_at}
 use Rattle.stable_lines.specs.Progress.{Open, Flight, Progress}
 use Rattle.stable_lines.specs.Facts.{IsChanged}
 use Rattle.stable_lines.proofs.Turns.{some_same}
-use Rattle.line_moves.proofs.Runs.{pends}
-use Rattle.line_seat.specs.declared.commit.CommitStage.{CommitStage}
-use Rattle.line_seat.specs.declared.commit.CommitStage.TheVariants.{Changing, Imaging, Gathering, Sealing, Landing, Committed}
-use Rattle.line_seat.specs.Stages.{progress_at}
+use Rattle.disk_seats.proofs.of_line_moves.Runs.{pends}
+use Rattle.disk_seats.specs.line_seat.declared.commit.CommitStage.{CommitStage}
+use Rattle.disk_seats.specs.line_seat.declared.commit.CommitStage.TheVariants.{Changing, Imaging, Gathering, Sealing, Landing, Committed}
+use Rattle.disk_seats.specs.line_seat.Stages.{progress_at}
 use Rattle.disk_seats.specs.Ledgers.{Standing, resting, changing, broken, committing, undoing, entries_of, Commit, Ledger, progress_with, progress_of}
 use Rattle.disk_seats.specs.Members.{MemberStands, LedgerFacts}
 use Rattle.ledger_versions.specs.Readers.{HasBefore}

@@ -1,4 +1,4 @@
-pub use Rattle.answered_steps.proofs as answered_steps
-pub use Rattle.line_arms.proofs as line_arms
+pub use Rattle.answered_steps.proofs as of_answered_steps
+pub use Rattle.line_arms.proofs as of_line_arms
 pub mod Absent
 pub mod Places

@@ -4,18 +4,18 @@ use Rattle.rdo_ast.specs.declared.syntax.Item.{Item}
 use Rattle.line_store.specs.Shelves.{Shelf}
 use Rattle.line_store.proofs.InTurn.{does-as, does-nothing}
 use Rattle.session_jobs.specs.Records.{Model}
-use Rattle.session_states.specs.declared.stage.Phase.{Phase}
-use Rattle.session_states.specs.declared.stage.Life.TheVariants.{Alive}
-use Rattle.session_states.specs.declared.stage.Phase.TheVariants.{Reading}
-use Rattle.session_states.specs.declared.stage.Reader.{Reader}
-use Rattle.session_states.specs.declared.stage.ReaderStage.{ReaderStage}
-use Rattle.session_states.specs.States.{session, reader}
-use Rattle.session_states.specs.Steps.{Step}
-use Rattle.stage_steps.specs.declared.happening.Happening.{Happening}
-use Rattle.stage_steps.specs.declared.happening.Happening.TheVariants.{Quiet}
-use Rattle.stage_steps.specs.Happenings.{events_of, handed_back}
-use Rattle.stage_steps.specs.Scenes.{Scene, Goes, ComesIn, TakesUpIn, EndsIn, NearerIn, PassesOn, beside, on_shelf}
-use Rattle.stage_steps.specs.Turns.{Comes}
+use Rattle.job_steps.specs.session_states.declared.stage.Phase.{Phase}
+use Rattle.job_steps.specs.session_states.declared.stage.Life.TheVariants.{Alive}
+use Rattle.job_steps.specs.session_states.declared.stage.Phase.TheVariants.{Reading}
+use Rattle.job_steps.specs.session_states.declared.stage.Reader.{Reader}
+use Rattle.job_steps.specs.session_states.declared.stage.ReaderStage.{ReaderStage}
+use Rattle.job_steps.specs.session_states.States.{session, reader}
+use Rattle.job_steps.specs.session_states.Steps.{Step}
+use Rattle.job_steps.specs.stage_steps.declared.happening.Happening.{Happening}
+use Rattle.job_steps.specs.stage_steps.declared.happening.Happening.TheVariants.{Quiet}
+use Rattle.job_steps.specs.stage_steps.Happenings.{events_of, handed_back}
+use Rattle.job_steps.specs.stage_steps.Scenes.{Scene, Goes, ComesIn, TakesUpIn, EndsIn, NearerIn, PassesOn, beside, on_shelf}
+use Rattle.job_steps.specs.stage_steps.Turns.{Comes}
 use Rattle.line_arms.specs.Going.{GoesOn}
 
 goes-as : {N L : Type 0} (s : ℕ) (x y : Phase) (R Q : Shelf → Shelf → Type 0) (old new : Scene) → ((h g : Shelf) → R h g → Q h g) → (N → L) → Goes s x Alive y Alive R N old new → Goes s x Alive y Alive Q L old new

@@ -9,20 +9,20 @@ use Rattle.kept_apart.specs.Guards.{line_node}
 use Rattle.line_view.specs.declared.need.Need.{Need}
 use Rattle.line_view.specs.declared.need.Need.TheVariants.{Line, Area, Room}
 use Rattle.line_view.specs.declared.writes.Write.{Write}
-use Rattle.session_states.specs.declared.stage.Work.{Work}
-use Rattle.session_states.specs.declared.stage.Work.TheVariants.{Opening, Due, Out, Lacking, Housing, Fetching, Lodging}
-use Rattle.session_states.specs.declared.stage.Gather.{Gather}
-use Rattle.session_states.specs.declared.stage.Gather.TheVariants as gather
-use Rattle.session_states.specs.declared.stage.Laying.{Laying}
-use Rattle.session_states.specs.declared.stage.Laying.TheVariants.{Claiming, Changing}
-use Rattle.session_states.specs.declared.stage.Stage.{Stage}
-use Rattle.session_states.specs.declared.stage.Stage.TheVariants.{Between, Working, Gathering, Reserving, Saying, Ending}
+use Rattle.job_steps.specs.session_states.declared.stage.Work.{Work}
+use Rattle.job_steps.specs.session_states.declared.stage.Work.TheVariants.{Opening, Due, Out, Lacking, Housing, Fetching, Lodging}
+use Rattle.job_steps.specs.session_states.declared.stage.Gather.{Gather}
+use Rattle.job_steps.specs.session_states.declared.stage.Gather.TheVariants as gather
+use Rattle.job_steps.specs.session_states.declared.stage.Laying.{Laying}
+use Rattle.job_steps.specs.session_states.declared.stage.Laying.TheVariants.{Claiming, Changing}
+use Rattle.job_steps.specs.session_states.declared.stage.Stage.{Stage}
+use Rattle.job_steps.specs.session_states.declared.stage.Stage.TheVariants.{Between, Working, Gathering, Reserving, Saying, Ending}
 use Rattle.line_store.specs.Seats.{Seat, IsWriting}
 use Rattle.line_store.specs.Sights.{bare}
-use Rattle.session_stands.specs.Seated.{stand_of}
-use Rattle.session_stands.proofs.Seats.{writing-seat}
-use Rattle.stage_steps.specs.Asking.{IsOfStatement}
-use Rattle.session_states.specs.Locks.{lock_of, lock_for_area, lock_for, lock_of_work, lock_of_gather, lock_of_write, lock_of_laying}
+use Rattle.job_steps.specs.session_stands.Seated.{stand_of}
+use Rattle.job_steps.proofs.of_session_stands.Seats.{writing-seat}
+use Rattle.job_steps.specs.stage_steps.Asking.{IsOfStatement}
+use Rattle.job_steps.specs.session_states.Locks.{lock_of, lock_for_area, lock_for, lock_of_work, lock_of_gather, lock_of_write, lock_of_laying}
 use Rattle.line_arms.specs.Going.{MayBeAsked}
 
 line-asked : (item : Uttered) (key : Dbkey) (b : Bool) → MayBeAsked (Some (if b then lock_for_area item 1 else need (line_node key) PR))

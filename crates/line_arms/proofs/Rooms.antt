@@ -5,14 +5,14 @@ use Rattle.rdo_ast.specs.declared.syntax.Item.{Item}
 use Rattle.line_view.specs.declared.need.Need.TheVariants as need
 use Rattle.line_view.specs.declared.need.Room.{Room}
 use Rattle.session_jobs.specs.Records.{Model, IsOrderly}
-use Rattle.session_states.specs.declared.stage.Work.TheVariants.{Due, Lacking, Lodging}
-use Rattle.session_states.specs.declared.stage.Stage.TheVariants.{Working}
-use Rattle.session_states.proofs.Resting.{rests-by}
-use Rattle.session_measure.proofs.Nearer.{nearer-in-round}
-use Rattle.stage_steps.specs.declared.terms.Terms.{Terms}
-use Rattle.stage_steps.specs.Scenes.{PassesOn}
-use Rattle.stage_steps.specs.Turns.{at_stage}
-use Rattle.stage_steps.proofs.Seated.{rests-at}
+use Rattle.job_steps.specs.session_states.declared.stage.Work.TheVariants.{Due, Lacking, Lodging}
+use Rattle.job_steps.specs.session_states.declared.stage.Stage.TheVariants.{Working}
+use Rattle.job_steps.proofs.of_session_states.Resting.{rests-by}
+use Rattle.job_steps.proofs.of_session_measure.Nearer.{nearer-in-round}
+use Rattle.job_steps.specs.stage_steps.declared.terms.Terms.{Terms}
+use Rattle.job_steps.specs.stage_steps.Scenes.{PassesOn}
+use Rattle.job_steps.specs.stage_steps.Turns.{at_stage}
+use Rattle.job_steps.proofs.of_stage_steps.Seated.{rests-at}
 
 module _ (M : Model) (orderly : IsOrderly M) (t : Terms) (item : Item) (room : Room) where
   pub lacks-again : PassesOn M (at_stage t (Working item (Lacking (need.Room room)))) (at_stage t (Working item Due))

@@ -9,15 +9,15 @@ use Rattle.journal_waits.specs.Holders.{OthersKeepTo}
 use Rattle.line_steps.specs.Images.{journal_node}
 use Rattle.line_store.specs.Seats.{Seat}
 use Rattle.session_jobs.specs.Records.{Model}
-use Rattle.session_states.specs.declared.stage.Phase.{Phase}
-use Rattle.session_states.specs.declared.stage.Phase.TheVariants.{Outside, Over}
-use Rattle.session_states.specs.declared.stage.Life.TheVariants.{Alive}
-use Rattle.session_states.specs.States.{session}
-use Rattle.session_states.specs.Steps.{Step}
-use Rattle.session_stands.specs.Sessions.{FlyWithJournal}
-use Rattle.stage_steps.specs.declared.happening.Happening.{Happening}
-use Rattle.stage_steps.specs.Happenings.{events_of}
-use Rattle.stage_steps.specs.Scenes.{Scene, Goes, NearerIn, on_shelf}
+use Rattle.job_steps.specs.session_states.declared.stage.Phase.{Phase}
+use Rattle.job_steps.specs.session_states.declared.stage.Phase.TheVariants.{Outside, Over}
+use Rattle.job_steps.specs.session_states.declared.stage.Life.TheVariants.{Alive}
+use Rattle.job_steps.specs.session_states.States.{session}
+use Rattle.job_steps.specs.session_states.Steps.{Step}
+use Rattle.job_steps.specs.session_stands.Sessions.{FlyWithJournal}
+use Rattle.job_steps.specs.stage_steps.declared.happening.Happening.{Happening}
+use Rattle.job_steps.specs.stage_steps.Happenings.{events_of}
+use Rattle.job_steps.specs.stage_steps.Scenes.{Scene, Goes, NearerIn, on_shelf}
 
 -- session s goes from phase x to y, and what is left of its script from `left` to `rest`, where this happens
 abbrev pub GoesOn : Model → ℕ → Scene → List Item → Phase → Scene → List Item → Phase → Happening → Type 0

@@ -1,18 +1,18 @@
 //! The end of a read-write transaction, step by step.
 ghost use Rattle.std.specs.Prelude.{◌≡◌};
 ghost use Rattle.line_store.specs.Seats.{IsMember};
-ghost use Rattle.session_stands.specs.Seated.{IsSeated};
-ghost use Rattle.stage_steps.specs.Scenes.{ComesIn, scene};
-ghost use Rattle.stage_steps.specs.Turns.{at_stage};
+ghost use Rattle.job_steps.specs.session_stands.Seated.{IsSeated};
+ghost use Rattle.job_steps.specs.stage_steps.Scenes.{ComesIn, scene};
+ghost use Rattle.job_steps.specs.stage_steps.Turns.{at_stage};
 ghost use Rattle.line_arms.specs.Going.{IsAmong};
 
+use job_steps::session_states::{End, Stage};
+use job_steps::stage_steps::{
+    Common, Terms, Turned, commit, go_away, land, prepare, quiet, roll_back, want_journal,
+};
 use line_store::LineStore;
 use rdb_types::{Level, Node, Session};
 use session_jobs::Statements;
-use session_states::{End, Stage};
-use stage_steps::{
-    Common, Terms, Turned, commit, go_away, land, prepare, quiet, roll_back, want_journal,
-};
 
 /// The after-image journal.
 const JOURNAL: Node = Node {

@@ -1,19 +1,19 @@
 //! A statement whose needs are locked and read in turn.
 ghost use Rattle.std.specs.Prelude.{◌≡◌};
 ghost use Rattle.line_store.specs.Seats.{IsMember};
-ghost use Rattle.session_stands.specs.Seated.{IsSeated};
-ghost use Rattle.stage_steps.specs.Scenes.{ComesIn, scene};
+ghost use Rattle.job_steps.specs.session_stands.Seated.{IsSeated};
+ghost use Rattle.job_steps.specs.stage_steps.Scenes.{ComesIn, scene};
 ghost use Rattle.room_steps.specs.gathering_steps.Rounds.{gathers_at};
 
 use crate::working::want_lock;
 use given_rooms::Rooms;
+use job_steps::session_states::Gather;
+use job_steps::stage_steps::{Common, Terms, Turned};
 use line_store::LineStore;
 use line_view::Need;
 use rdb_types::Session;
 use reached_changes::Reaches;
 use room_steps::{Given, Round, fetch_gathered, house, lodge};
-use session_states::Gather;
-use stage_steps::{Common, Terms, Turned};
 
 /// One step of a round of needs. For a room a line is named first.
 pub(crate) fn go_on_gathering<S: Reaches, L: LineStore>(

@@ -2,21 +2,21 @@
 ghost use Rattle.std.specs.Prelude.{◌≡◌, List, [], false};
 ghost use Rattle.rdo_ast.specs.declared.syntax.Item.{Item as ItemValue};
 ghost use Rattle.line_store.specs.Seats.{IsMember};
-ghost use Rattle.session_stands.specs.Seated.{IsSeated};
-ghost use Rattle.session_measure.specs.Nearer.{AreRounds};
-ghost use Rattle.stage_steps.specs.Happenings.{handed_back};
-ghost use Rattle.stage_steps.specs.Scenes.{scene};
+ghost use Rattle.job_steps.specs.session_stands.Seated.{IsSeated};
+ghost use Rattle.job_steps.specs.session_measure.Nearer.{AreRounds};
+ghost use Rattle.job_steps.specs.stage_steps.Happenings.{handed_back};
+ghost use Rattle.job_steps.specs.stage_steps.Scenes.{scene};
 ghost use Rattle.line_arms.specs.Going.{GoesOn, IsAmong, is_done};
 
 use crate::Allotment;
 use crate::reading::go_on_reading;
 use crate::writing::go_on_writing;
+use job_steps::session_states::{ItemQueue, Phase};
+use job_steps::stage_steps::{Common, Turned, put_away, start};
 use line_store::LineStore;
 use rdb_types::Session;
 use reached_changes::Reaches;
 use reserved_locks::Reserves;
-use session_states::{ItemQueue, Phase};
-use stage_steps::{Common, Turned, put_away, start};
 
 /// One step of a session that has something left to do, with what its statement is allotted. An item that is handed back isn't in what
 /// is left; it goes on also then, with some rest of its script.

@@ -2,24 +2,24 @@
 ghost use Rattle.std.specs.Prelude.{◌≡◌, List, []};
 ghost use Rattle.rdo_ast.specs.declared.syntax.Item.{Item as ItemValue};
 ghost use Rattle.line_store.specs.Seats.{IsMember};
-ghost use Rattle.session_states.specs.declared.stage.Phase.TheVariants.{Reading};
-ghost use Rattle.session_stands.specs.Seated.{IsSeated};
-ghost use Rattle.session_measure.specs.Nearer.{AreRounds};
-ghost use Rattle.stage_steps.specs.Happenings.{handed_back};
-ghost use Rattle.stage_steps.specs.Scenes.{ComesIn, scene};
-ghost use Rattle.stage_steps.specs.Turns.{reads_at};
+ghost use Rattle.job_steps.specs.session_states.declared.stage.Phase.TheVariants.{Reading};
+ghost use Rattle.job_steps.specs.session_stands.Seated.{IsSeated};
+ghost use Rattle.job_steps.specs.session_measure.Nearer.{AreRounds};
+ghost use Rattle.job_steps.specs.stage_steps.Happenings.{handed_back};
+ghost use Rattle.job_steps.specs.stage_steps.Scenes.{ComesIn, scene};
+ghost use Rattle.job_steps.specs.stage_steps.Turns.{reads_at};
 ghost use Rattle.line_arms.specs.Going.{GoesOn};
 
 use crate::Allotment;
+use job_steps::session_states::{ItemQueue, Reader, ReaderStage, ReaderWork};
+use job_steps::stage_steps::{
+    Common, ReaderRound, ReaderTerms, Turned, compute_reading, fetch_reading, forgo_reading,
+    hand_out_reading, leave_reading, quiet, take_up_reading,
+};
 use line_store::LineStore;
 use rdb_types::Session;
 use rdo_ast::syntax::Item;
 use session_jobs::Statements;
-use session_states::{ItemQueue, Reader, ReaderStage, ReaderWork};
-use stage_steps::{
-    Common, ReaderRound, ReaderTerms, Turned, compute_reading, fetch_reading, forgo_reading,
-    hand_out_reading, leave_reading, quiet, take_up_reading,
-};
 
 /// One step of a read-only transaction.
 pub(crate) fn go_on_reading<S: Statements, L: LineStore>(

@@ -4,25 +4,27 @@ ghost use Rattle.line_store.specs.Seats.{IsMember};
 ghost use Rattle.rdb_types.specs.declared.keys.Dbkey.{Dbkey as Key};
 ghost use Rattle.line_view.specs.declared.need.Need.TheVariants.{Room as OfRoom};
 ghost use Rattle.line_view.specs.declared.need.Room.{Room as RoomValue};
-ghost use Rattle.session_states.specs.declared.stage.Work.TheVariants.{Lacking, Lodging};
-ghost use Rattle.session_states.specs.Locks.{lock_of};
-ghost use Rattle.session_stands.specs.Seated.{IsSeated};
-ghost use Rattle.session_measure.specs.Nearer.{AreRounds};
-ghost use Rattle.stage_steps.specs.Asking.{IsOfStatement};
-ghost use Rattle.stage_steps.specs.Scenes.{ComesIn, PassesOn, scene};
-ghost use Rattle.stage_steps.specs.Turns.{at_stage};
+ghost use Rattle.job_steps.specs.session_states.declared.stage.Work.TheVariants.{Lacking, Lodging};
+ghost use Rattle.job_steps.specs.session_states.Locks.{lock_of};
+ghost use Rattle.job_steps.specs.session_stands.Seated.{IsSeated};
+ghost use Rattle.job_steps.specs.session_measure.Nearer.{AreRounds};
+ghost use Rattle.job_steps.specs.stage_steps.Asking.{IsOfStatement};
+ghost use Rattle.job_steps.specs.stage_steps.Scenes.{ComesIn, PassesOn, scene};
+ghost use Rattle.job_steps.specs.stage_steps.Turns.{at_stage};
 ghost use Rattle.line_arms.specs.Going.{MayBeAsked};
 
 use crate::Allotment;
 use job_steps::compute;
+use job_steps::session_states::{Phase, Stage, Work, lock_of};
+use job_steps::stage_steps::{
+    Common, Terms, Turned, fetch_locked, forgo, hand_out, open, quiet, want,
+};
 use line_store::LineStore;
 use line_view::Need;
 use rdb_types::Session;
 use rdo_ast::syntax::Item;
 use reserved_locks::Reserves;
 use session_jobs::Statements;
-use session_states::{Phase, Stage, Work, lock_of};
-use stage_steps::{Common, Terms, Turned, fetch_locked, forgo, hand_out, open, quiet, want};
 
 /// One step of a statement's work.
 pub(crate) fn go_on_working<S: Reserves, L: LineStore>(

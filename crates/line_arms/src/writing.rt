@@ -1,17 +1,19 @@
 //! A read-write transaction, by its stage.
 ghost use Rattle.std.specs.Prelude.{◌≡◌};
 ghost use Rattle.line_store.specs.Seats.{IsMember};
-ghost use Rattle.session_states.specs.declared.stage.Phase.TheVariants.{Writing};
-ghost use Rattle.session_stands.specs.Seated.{IsSeated};
-ghost use Rattle.session_measure.specs.Nearer.{AreRounds};
-ghost use Rattle.stage_steps.specs.Scenes.{ComesIn, scene};
-ghost use Rattle.stage_steps.specs.Turns.{at_stage};
+ghost use Rattle.job_steps.specs.session_states.declared.stage.Phase.TheVariants.{Writing};
+ghost use Rattle.job_steps.specs.session_stands.Seated.{IsSeated};
+ghost use Rattle.job_steps.specs.session_measure.Nearer.{AreRounds};
+ghost use Rattle.job_steps.specs.stage_steps.Scenes.{ComesIn, scene};
+ghost use Rattle.job_steps.specs.stage_steps.Turns.{at_stage};
 ghost use Rattle.line_arms.specs.Going.{GoesOn, IsAmong};
 
 use crate::Allotment;
 use crate::ending::go_on_ending;
 use crate::gathering::go_on_gathering;
 use crate::working::{go_on_working, want_lock};
+use job_steps::session_states::{ItemQueue, Laying, Stage, Writer};
+use job_steps::stage_steps::{Common, Terms, Turned, change, lay, leave, quiet, take_up};
 use job_steps::{Reserving, want_reserved};
 use line_store::LineStore;
 use rdb_types::Session;
@@ -20,8 +22,6 @@ use reached_changes::Reaches;
 use reserved_locks::Reserves;
 use room_steps::Round;
 use session_jobs::{Statements, TxRecord};
-use session_states::{ItemQueue, Laying, Stage, Writer};
-use stage_steps::{Common, Terms, Turned, change, lay, leave, quiet, take_up};
 
 /// One step of a read-write transaction.
 pub(crate) fn go_on_writing<S: Reserves + Reaches, L: LineStore>(

@@ -2,9 +2,9 @@
 use Rattle.std.proofs.Common.{◌≡◌, ◌≤◌, ◌<◌, ◌-◌, ◌∙◌, ℕ, zero, suc, nat_lt, Bool, true, false, not, ◌&&◌, ◌||◌, List, Option, Some, None, IfSome, is_some, slice_get, refl, sym, ap, arith}
 use Rattle.std.proofs.lemmas.Bool.{false≢true}
 use Rattle.lock_tree.specs.Sleeping.{IsBlockedBy, is_sleeping}
-use Rattle.session_states.specs.declared.stage.Member.{Member}
-use Rattle.session_stands.specs.Sessions.{dead_in, member_at}
-use Rattle.stage_steps.specs.Nearer.{is_patient_at}
+use Rattle.line_account.specs.session_states.declared.stage.Member.{Member}
+use Rattle.line_account.specs.session_stands.Sessions.{dead_in, member_at}
+use Rattle.line_account.specs.stage_steps.Nearer.{is_patient_at}
 use Rattle.line_cluster.specs.Turned.{Sessions}
 use Rattle.line_cluster.specs.Asleep.{is_asleep, is_mourning, is_patient, sleeps}
 

@@ -10,16 +10,16 @@ use Rattle.line_store.specs.Shelves.{Shelf}
 use Rattle.line_store.specs.Calls.{MayStand}
 use Rattle.line_store.specs.Sights.{Agrees, Stands, bare, MayBeOpened}
 use Rattle.session_jobs.specs.Records.{Model, IsOrderly}
-use Rattle.session_states.specs.declared.item_queue.WholeScript.{WholeScript}
-use Rattle.session_states.specs.declared.stage.Member.{Member}
-use Rattle.session_states.specs.declared.stage.Phase.TheVariants.{Outside}
-use Rattle.session_states.specs.declared.stage.Life.TheVariants.{Alive}
-use Rattle.session_states.specs.Kept.{AreKept}
-use Rattle.session_states.proofs.Opened.{opened}
-use Rattle.session_stands.specs.Sessions.{AreSeated, IsTold, dead_in, sharing}
-use Rattle.session_stands.proofs.Seating.{began}
-use Rattle.session_stands.proofs.Seats.{outside-seat}
-use Rattle.stage_steps.specs.Scenes.{Scene}
+use Rattle.line_account.specs.session_states.declared.item_queue.WholeScript.{WholeScript}
+use Rattle.line_account.specs.session_states.declared.stage.Member.{Member}
+use Rattle.line_account.specs.session_states.declared.stage.Phase.TheVariants.{Outside}
+use Rattle.line_account.specs.session_states.declared.stage.Life.TheVariants.{Alive}
+use Rattle.line_account.specs.session_states.Kept.{AreKept}
+use Rattle.line_account.proofs.of_session_states.Opened.{opened}
+use Rattle.line_account.specs.session_stands.Sessions.{AreSeated, IsTold, dead_in, sharing}
+use Rattle.line_account.proofs.of_session_stands.Seating.{began}
+use Rattle.line_account.proofs.of_session_stands.Seats.{outside-seat}
+use Rattle.line_account.specs.stage_steps.Scenes.{Scene}
 use Rattle.rdb_account.specs.Events.{event_of}
 use Rattle.rdb_account.specs.declared.event.Event.{Event as Declared}
 use Rattle.line_cluster.proofs.Stepping.{told-images}

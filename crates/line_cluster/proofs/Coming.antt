@@ -6,23 +6,23 @@ use Rattle.std.proofs.lemmas.Option.{same_Some}
 use Rattle.rdb_drive.specs.Boards.{Mark, Says, Does, Other, AllOf, AllNobodys, answers}
 use Rattle.rdb_account.specs.declared.event.Event.{Event as Declared}
 use Rattle.rdb_account.specs.Events.{Event, Died, event_of}
-use Rattle.session_states.specs.declared.stage.Life.{Life}
-use Rattle.session_states.specs.declared.stage.Life.TheVariants.{Alive, Dead, Gone}
+use Rattle.line_account.specs.session_states.declared.stage.Life.{Life}
+use Rattle.line_account.specs.session_states.declared.stage.Life.TheVariants.{Alive, Dead, Gone}
 use Rattle.rdb_types.specs.declared.session.Cause.{Cause}
 use Rattle.rdb_types.specs.declared.session.Cause.TheVariants.{Memory}
-use Rattle.session_states.specs.declared.stage.Member.{Member}
-use Rattle.session_stands.specs.Sessions.{dead_in, one_dead}
+use Rattle.line_account.specs.session_states.declared.stage.Member.{Member}
+use Rattle.line_account.specs.session_stands.Sessions.{dead_in, one_dead}
 use Rattle.line_cluster.specs.declared.behind.Notice.{Notice}
 use Rattle.line_cluster.specs.Behind.{IsNoticed}
 use Rattle.line_cluster.specs.Deaths.{is_own}
 use Rattle.lent_members.specs.Going.{IsDeadAt, is_alive_life, is_dead_life, is_over, with_life}
 use Rattle.rdb_account.specs.Places.{Opening}
 use Rattle.line_store.specs.declared.answers.Fault.{Fault}
-use Rattle.stage_steps.specs.declared.dying.Recovery.{Recovery}
-use Rattle.stage_steps.specs.declared.dying.Recovery.TheVariants.{More, Done}
-use Rattle.stage_steps.specs.Deaths.{life_behind, recovery_events}
-use Rattle.stage_steps.specs.declared.happening.Happening.{Happening}
-use Rattle.stage_steps.specs.Happenings.{events_of}
+use Rattle.line_account.specs.stage_steps.declared.dying.Recovery.{Recovery}
+use Rattle.line_account.specs.stage_steps.declared.dying.Recovery.TheVariants.{More, Done}
+use Rattle.line_account.specs.stage_steps.Deaths.{life_behind, recovery_events}
+use Rattle.line_account.specs.stage_steps.declared.happening.Happening.{Happening}
+use Rattle.line_account.specs.stage_steps.Happenings.{events_of}
 use Rattle.line_cluster.specs.declared.sessions.Turn.{Turn}
 use Rattle.line_cluster.specs.declared.sessions.Turn.TheVariants as turn
 use Rattle.line_cluster.specs.Turned.{Sessions, Came, GoesFurther, GoesOn, Grows, GrowsQuietly, HasFallen, IsAnother, IsDeath, IsRecovery, Rests, mark_of}

@@ -16,15 +16,15 @@ use Rattle.line_store.specs.Seats.{Seat}
 use Rattle.line_store.specs.Shelves.{Shelf, Elapses}
 use Rattle.line_store.specs.Calls.{Fails}
 use Rattle.line_store.specs.Sights.{Sight, Behind, Does}
-use Rattle.session_states.specs.declared.stage.Phase.{Phase}
-use Rattle.stage_steps.specs.declared.dying.Recovery.{Recovery}
-use Rattle.stage_steps.specs.declared.dying.Recovery.TheVariants.{More, Done}
-use Rattle.stage_steps.specs.declared.happening.Happening.{Happening}
-use Rattle.stage_steps.specs.declared.happening.Happening.TheVariants.{Quiet, Began, Answered, Unstarted, Asleep, Noticed, Got, Refused, RefusedStart, Committed, RolledBack, Left, Failed, Unlaid, Unworked, Unanswered, Unsound}
-use Rattle.stage_steps.specs.Happenings.{events_of}
-use Rattle.stage_steps.specs.Notices.{demoted_by}
-use Rattle.stage_steps.specs.Scenes.{Scene, HasFailed}
-use Rattle.stage_steps.specs.Deaths.{NearerRecoveredIn, recovery_events}
+use Rattle.line_account.specs.session_states.declared.stage.Phase.{Phase}
+use Rattle.line_account.specs.stage_steps.declared.dying.Recovery.{Recovery}
+use Rattle.line_account.specs.stage_steps.declared.dying.Recovery.TheVariants.{More, Done}
+use Rattle.line_account.specs.stage_steps.declared.happening.Happening.{Happening}
+use Rattle.line_account.specs.stage_steps.declared.happening.Happening.TheVariants.{Quiet, Began, Answered, Unstarted, Asleep, Noticed, Got, Refused, RefusedStart, Committed, RolledBack, Left, Failed, Unlaid, Unworked, Unanswered, Unsound}
+use Rattle.line_account.specs.stage_steps.Happenings.{events_of}
+use Rattle.line_account.specs.stage_steps.Notices.{demoted_by}
+use Rattle.line_account.specs.stage_steps.Scenes.{Scene, HasFailed}
+use Rattle.line_account.specs.stage_steps.Deaths.{NearerRecoveredIn, recovery_events}
 use Rattle.line_cluster.specs.declared.sessions.Halt.{Halt}
 use Rattle.line_cluster.specs.declared.sessions.Halt.TheVariants as halts
 use Rattle.line_cluster.specs.Sound.{is_over_slot}

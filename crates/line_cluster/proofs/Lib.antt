@@ -1,4 +1,4 @@
-pub use Rattle.lent_members.proofs.answered_steps as answered_steps
+pub use Rattle.lent_members.proofs.of_answered_steps as of_answered_steps
 pub mod Faults
 pub mod Stepping
 pub mod Falling

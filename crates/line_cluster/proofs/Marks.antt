@@ -7,11 +7,11 @@ use Rattle.lock_ties.specs.Ties.{wanted_at}
 use Rattle.lock_tree.specs.declared.notice.Demotion.{Demotion}
 use Rattle.rdb_account.specs.Events.{Event}
 use Rattle.rdb_drive.specs.Boards.{Mark, AllOf, AllNobodys, answers}
-use Rattle.stage_steps.specs.declared.happening.Asking.{Asking}
-use Rattle.stage_steps.specs.declared.happening.Happening.{Happening}
-use Rattle.stage_steps.specs.declared.happening.Happening.TheVariants.{Quiet, Began, Answered, Unstarted, Asleep, Noticed, Got, Refused, RefusedStart, Committed, RolledBack, Left, Failed, Unlaid, Unworked, Unanswered, Unsound}
-use Rattle.stage_steps.specs.Happenings.{events_of, asked_by}
-use Rattle.stage_steps.specs.Notices.{demoted_by}
+use Rattle.line_account.specs.stage_steps.declared.happening.Asking.{Asking}
+use Rattle.line_account.specs.stage_steps.declared.happening.Happening.{Happening}
+use Rattle.line_account.specs.stage_steps.declared.happening.Happening.TheVariants.{Quiet, Began, Answered, Unstarted, Asleep, Noticed, Got, Refused, RefusedStart, Committed, RolledBack, Left, Failed, Unlaid, Unworked, Unanswered, Unsound}
+use Rattle.line_account.specs.stage_steps.Happenings.{events_of, asked_by}
+use Rattle.line_account.specs.stage_steps.Notices.{demoted_by}
 use Rattle.line_cluster.specs.declared.behind.Notice.{Notice}
 use Rattle.line_cluster.specs.Behind.{IsNoticed}
 use Rattle.line_cluster.specs.Turned.{mark_of}

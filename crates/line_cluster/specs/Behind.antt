@@ -1,9 +1,9 @@
 -- What is done behind a step.
 use Rattle.std.specs.Prelude.{◌≡◌, Bool, true, false, Option, None, Some}
 use Rattle.line_store.specs.declared.answers.Fault.TheVariants.{Bad}
-use Rattle.stage_steps.specs.declared.happening.Asking.{Asking}
-use Rattle.stage_steps.specs.declared.happening.Happening.{Happening}
-use Rattle.stage_steps.specs.declared.happening.Happening.TheVariants.{Noticed, Failed, Unlaid, Unworked, Unanswered, Unsound}
+use Rattle.line_account.specs.stage_steps.declared.happening.Asking.{Asking}
+use Rattle.line_account.specs.stage_steps.declared.happening.Happening.{Happening}
+use Rattle.line_account.specs.stage_steps.declared.happening.Happening.TheVariants.{Noticed, Failed, Unlaid, Unworked, Unanswered, Unsound}
 use Rattle.line_cluster.specs.declared.behind.Behind.{Behind}
 use Rattle.line_cluster.specs.declared.behind.Behind.TheVariants.{Stop}
 use Rattle.line_cluster.specs.declared.behind.Notice.{Notice}

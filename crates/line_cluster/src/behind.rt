@@ -6,9 +6,9 @@ ghost use Rattle.line_cluster.specs.Sound.{is_over_slot, is_unsound};
 ghost use Rattle.line_cluster.specs.declared.behind.Notice.{Notice as NoticeValue};
 
 use crate::sessions::Halt;
+use line_account::stage_steps::Happening;
 use line_store::Fault;
 use rdb_types::{Node, Session};
-use stage_steps::Happening;
 use vms_queues::Mode;
 
 /// A notice that a session's want found due: a lock of this session at the node is stronger than it has to be.

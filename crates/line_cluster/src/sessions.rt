@@ -3,11 +3,11 @@ use crate::allotments::Allotments;
 use crate::origin::Origin;
 use lent_members::LentMember;
 use lent_values::{Desk, Naming};
+use line_account::stage_steps::Common;
 use line_store::{Fault, LineStore};
 use rdb_account::Event;
 use rdb_types::{Dbkey, Session};
 use session_jobs::{Job, Statements};
-use stage_steps::Common;
 use std::marker::PhantomData;
 
 /// Why no session goes on any more.

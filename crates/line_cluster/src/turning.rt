@@ -2,17 +2,17 @@
 ghost use Rattle.std.specs.Prelude.{◌≡◌, ℕ, ◌≤◌, ◌<◌, ◌+◌, ◌-◌, ◌++◌, ◌∷◌, ◌⊎◌, [], length, map, None, Some, true, false, is_some, slice_get, slice_set, IfSome};
 ghost use Rattle.rdb_account.specs.Events.{event_of, Died};
 ghost use Rattle.rdb_drive.specs.Boards.{Less};
-ghost use Rattle.session_states.specs.declared.stage.Life.TheVariants.{Alive, Dead};
-ghost use Rattle.session_states.specs.declared.stage.Member.{Member as MemberValue};
-ghost use Rattle.session_states.specs.States.{may_die_in};
+ghost use Rattle.line_account.specs.session_states.declared.stage.Life.TheVariants.{Alive, Dead};
+ghost use Rattle.line_account.specs.session_states.declared.stage.Member.{Member as MemberValue};
+ghost use Rattle.line_account.specs.session_states.States.{may_die_in};
 ghost use Rattle.lent_members.specs.line_arms.Going.{is_done};
-ghost use Rattle.session_stands.specs.Sessions.{dead_in};
+ghost use Rattle.line_account.specs.session_stands.Sessions.{dead_in};
 ghost use Rattle.lock_tree_laws.specs.Forest.{party_of};
 ghost use Rattle.lock_tree_laws.specs.LockTable.{granted_at};
 ghost use Rattle.lock_tree_laws.specs.Progress.{is_spare, Falls as LocksFall};
 ghost use Rattle.lock_tree.specs.Sleeping.{is_sleeping};
-ghost use Rattle.stage_steps.specs.Nearer.{is_patient_at};
-ghost use Rattle.stage_steps.specs.Scenes.{scene};
+ghost use Rattle.line_account.specs.stage_steps.Nearer.{is_patient_at};
+ghost use Rattle.line_account.specs.stage_steps.Scenes.{scene};
 ghost use Rattle.line_cluster.specs.Asleep.{sleeps};
 ghost use Rattle.line_cluster.specs.Deaths.{faults_in, is_device, is_own, lives_in};
 ghost use Rattle.line_cluster.specs.Sound.{IsSound, IsOneOf, MayFail, is_over_slot, is_unsound};
@@ -30,12 +30,12 @@ use lent_members::{
     take_present,
 };
 use lent_values::Naming;
+use line_account::stage_steps::serve;
 use line_account::{record, record_demotion, reserve_step};
 use line_store::LineStore;
 use rdb_types::{Cause, Session};
 use reached_changes::Reaches;
 use reserved_locks::Reserves;
-use stage_steps::serve;
 use std::mem::forget;
 
 impl<O: Origin + Naming, S: Reserves + Reaches, L: LineStore> Core<O, S, L> {

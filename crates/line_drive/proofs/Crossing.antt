@@ -28,7 +28,7 @@ use Rattle.session_states.specs.contracts.stage.Phase as Phase
 use Rattle.session_states.specs.contracts.item_queue.ItemQueue as ItemQueue
 use Rattle.session_jobs.specs.declared.statements.Statements.{Ghosts as StatementGhosts}
 use Rattle.line_store.specs.declared.store.LineStore.{Ghosts as StoreGhosts}
-use Rattle.stage_steps.specs.contracts.common.Common as Common
+use Rattle.line_cluster.specs.stage_steps.contracts.common.Common as Common
 use Rattle.line_cluster.specs.declared.origin.Origin.{Ghosts as OriginGhosts}
 use Rattle.line_cluster.proofs.allotments.Allotments.TheSendSync as allotments
 use Rattle.line_cluster.proofs.sessions.Halt.TheSendSync as halt
@@ -37,7 +37,7 @@ use Rattle.lent_values.proofs.Crossing.{receipt_send}
 use Rattle.lent_values.proofs.desk.Desk.TheSendSync as desk
 use Rattle.session_jobs.specs.contracts.jobs.Job as Job
 use Rattle.lent_jobs.proofs.Crossing.{worked_job_send}
-use Rattle.line_cluster.proofs.answered_steps.answered.Absence.TheSendSync as absence
+use Rattle.line_cluster.proofs.of_answered_steps.answered.Absence.TheSendSync as absence
 use Rattle.line_cluster.specs.lent_members.contracts.lent_members.Whereabouts as Whereabouts
 use Rattle.line_cluster.specs.lent_members.contracts.lent_members.LentMember as LentMember
 use Rattle.line_cluster.specs.lent_members.contracts.lent_members.LentMember.TheInside as member_inside

@@ -16,13 +16,13 @@ use Rattle.session_states.specs.declared.stage.Phase.{Phase}
 use Rattle.session_states.specs.declared.stage.Phase.TheVariants.{Outside, Closing, Writing, Reading, Over}
 use Rattle.session_states.specs.declared.stage.Life.TheVariants.{Alive}
 use Rattle.session_states.specs.declared.stage.Member.{Member}
-use Rattle.session_stands.specs.Sessions.{AreSeated, dead_in, member_at}
+use Rattle.line_cluster.specs.session_stands.Sessions.{AreSeated, dead_in, member_at}
 use Rattle.session_measure.specs.Weights.{life_left}
 use Rattle.line_cluster.specs.declared.sessions.Turn.{Turn}
 use Rattle.line_cluster.specs.declared.sessions.Turn.TheVariants as turn
 use Rattle.line_cluster.specs.line_arms.Going.{is_done}
 use Rattle.line_cluster.specs.lent_members.Going.{is_dead, is_over}
-use Rattle.stage_steps.specs.Nearer.{is_patient_at}
+use Rattle.line_cluster.specs.stage_steps.Nearer.{is_patient_at}
 use Rattle.line_cluster.specs.Deaths.{lives_in}
 use Rattle.line_cluster.specs.Measured.{IsBounded}
 use Rattle.line_cluster.specs.Turned.{Sessions, GoesFurther, Came, HasFallen, HasNothingLeft, IsAnother, Rests, IsAtEnd, mark_of}

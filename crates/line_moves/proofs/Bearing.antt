@@ -4,11 +4,11 @@ use Rattle.std.proofs.Common.{◌≡◌, ◌≢◌, ℕ, ◌-◌, ◌%◌, ◌�
 use Rattle.std.proofs.lemmas.Bool.{leb-true}
 use Rattle.std.proofs.lemmas.Bool.Decides.{nat_tests}
 use Rattle.rdb_types.specs.declared.keys.Dbkey.{Dbkey}
-use Rattle.rdb_page.specs.Page.{IsOwner, IsUnused}
-use Rattle.rdb_page.specs.Whole.{IsUsedPage}
-use Rattle.rdb_outside.specs.Disk.{zeros}
-use Rattle.area_files.specs.Areas.{IsPage, IsDataPage}
-use Rattle.line_versions.specs.Lines.{storage_area}
+use Rattle.line_store.specs.rdb_page.Page.{IsOwner, IsUnused}
+use Rattle.line_store.specs.rdb_page.Whole.{IsUsedPage}
+use Rattle.line_store.specs.rdb_outside.Disk.{zeros}
+use Rattle.line_store.specs.area_files.Areas.{IsPage, IsDataPage}
+use Rattle.stable_lines.specs.line_versions.Lines.{storage_area}
 use Rattle.stable_lines.specs.Slots.{file_of, slot_of, owner_at, has_place, line_on, IsAreaFile}
 use Rattle.stable_lines.specs.Progress.{Progress}
 use Rattle.stable_lines.specs.Facts.{PendingContents, OnPage, Facts}

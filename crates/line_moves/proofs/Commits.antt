@@ -1,12 +1,12 @@
 -- A commit slot, written and made stable.
 use Rattle.std.proofs.Common.{◌≡◌, ℕ, ◌+◌, List, length, Some, None, ap, sym, ◌∙◌}
 use Rattle.rdb_types.specs.declared.keys.Tsn.{Tsn}
-use Rattle.rdb_outside.specs.Disk.{Image}
-use Rattle.aij_journal.specs.declared.part.AijPart.{AijPart}
-use Rattle.aij_journal.specs.Part.{IsPart}
-use Rattle.journal_scan.specs.Standing.{what_stands}
-use Rattle.journal_scan.proofs.Stands.{only_stands}
-use Rattle.new_database.specs.Maker.{aij_file}
+use Rattle.line_store.specs.rdb_outside.Disk.{Image}
+use Rattle.stable_lines.specs.aij_journal.declared.part.AijPart.{AijPart}
+use Rattle.stable_lines.specs.aij_journal.Part.{IsPart}
+use Rattle.stable_lines.specs.journal_scan.Standing.{what_stands}
+use Rattle.stable_lines.proofs.of_journal_scan.Stands.{only_stands}
+use Rattle.stable_lines.specs.new_database.Maker.{aij_file}
 use Rattle.stable_lines.specs.Journal.{next_slot, commit_of}
 use Rattle.stable_lines.specs.Progress.{Flight, Progress, landed}
 use Rattle.stable_lines.specs.Facts.{PendingContents, More, Only, Facts}

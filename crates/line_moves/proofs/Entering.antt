@@ -1,7 +1,7 @@
 -- A page gets its owner on its space page.
 use Rattle.std.proofs.Common.{◌≡◌, ℕ, ◌-◌, ◌%◌, ◌≤◌, List, inr, ⊎_elim, sym, subst, ◌∙◌, arith}
-use Rattle.area_files.specs.Areas.{IsPage, IsDataPage, IsSpacePage, space_page_of}
-use Rattle.space_pages.specs.Space.{IsSpace, IsWritten, IsBeside, owner_of}
+use Rattle.line_store.specs.area_files.Areas.{IsPage, IsDataPage, IsSpacePage, space_page_of}
+use Rattle.stable_lines.specs.space_pages.Space.{IsSpace, IsWritten, IsBeside, owner_of}
 use Rattle.stable_lines.specs.Slots.{area_file, owner_at, IsAreaFile}
 use Rattle.stable_lines.specs.Progress.{Progress}
 use Rattle.stable_lines.specs.Facts.{PendingContents, More, Facts}

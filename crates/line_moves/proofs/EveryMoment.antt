@@ -1,8 +1,8 @@
 -- What images since a commit stand for, at every moment of a run that writes one slot.
 use Rattle.std.proofs.Common.{ℕ, ◌<◌, length, IsTrue, ⊎_elim, arith}
 use Rattle.rdb_types.specs.declared.file.FileId.{FileId}
-use Rattle.rdb_outside.specs.Disk.{View, Pending}
-use Rattle.rdb_outside.specs.Moments.{Since}
+use Rattle.line_store.specs.rdb_outside.Disk.{View, Pending}
+use Rattle.line_store.specs.rdb_outside.Moments.{Since}
 use Rattle.stable_lines.specs.Progress.{Progress}
 use Rattle.stable_lines.specs.Facts.{Facts}
 use Rattle.stable_lines.specs.History.{History, StandsFrom, IsAt}

@@ -5,16 +5,16 @@ use Rattle.std.proofs.Common.{◌≡◌, ◌≢◌, ℕ, Bool, true, false, nat_
 use Rattle.rdb_types.specs.declared.file.FileId.{FileId}
 use Rattle.rdb_types.specs.declared.keys.Dbkey.{Dbkey}
 use Rattle.rdb_types.specs.declared.keys.Line.{Line}
-use Rattle.rdb_outside.specs.Disk.{Image}
-use Rattle.rdb_page.specs.Whole.{IsPageOf}
-use Rattle.line_versions.specs.Lines.{storage_area}
+use Rattle.line_store.specs.rdb_outside.Disk.{Image}
+use Rattle.line_store.specs.rdb_page.Whole.{IsPageOf}
+use Rattle.stable_lines.specs.line_versions.Lines.{storage_area}
 use Rattle.stable_lines.specs.Slots.{area_file, file_of, slot_of, line_on}
 use Rattle.stable_lines.specs.Kept.{FitsClass}
 use Rattle.stable_lines.specs.Progress.{Progress}
 use Rattle.stable_lines.specs.Facts.{PendingContents, IsCommitted, IsChanged, HasLanded}
 use Rattle.line_moves.specs.declared.places.Place.{Place}
 use Rattle.line_moves.specs.Contents.{IsOn, IsSurePage, PutsLine}
-use Rattle.rdb_page.specs.Lines.{IsAllowedLine}
+use Rattle.line_store.specs.rdb_page.Lines.{IsAllowedLine}
 use Rattle.line_moves.specs.Changes.{IsPlaceOf, Fits}
 use Rattle.line_moves.specs.Lines.{ChangedLines, AreDistinct, MayPutAll, ArePut, IsNoKeyOf, Fills}
 use Rattle.line_moves.proofs.LinePut.{same_key}

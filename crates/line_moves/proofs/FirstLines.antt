@@ -3,11 +3,11 @@ use Rattle.std.proofs.Common.{◌≡◌, ℕ, ◌-◌, ◌≤◌, ◌<◌, Bool,
 use Rattle.rdb_types.specs.declared.file.FileId.{FileId}
 use Rattle.rdb_types.specs.declared.keys.Dbkey.{Dbkey}
 use Rattle.rdb_types.specs.declared.keys.Line.{Line}
-use Rattle.rdb_page.specs.declared.head.Head.{Head}
-use Rattle.rdb_page.specs.Lines.{never, IsLine}
-use Rattle.rdb_page.specs.Page.{IsUnused, class_at, lines_of}
-use Rattle.rdb_page.specs.Whole.{IsPageOf}
-use Rattle.line_view.specs.Knowledge.{line_in}
+use Rattle.line_store.specs.rdb_page.declared.head.Head.{Head}
+use Rattle.line_store.specs.rdb_page.Lines.{never, IsLine}
+use Rattle.line_store.specs.rdb_page.Page.{IsUnused, class_at, lines_of}
+use Rattle.line_store.specs.rdb_page.Whole.{IsPageOf}
+use Rattle.line_store.specs.line_view.Knowledge.{line_in}
 use Rattle.stable_lines.specs.Slots.{area_file, file_of, slot_of, has_place, line_on}
 use Rattle.stable_lines.specs.Progress.{Flight, Progress, lines_with}
 use Rattle.stable_lines.specs.Facts.{PendingContents, IsCommitted, IsChanged, HasLanded, Facts}

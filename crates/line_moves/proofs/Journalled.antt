@@ -1,13 +1,13 @@
 -- After-images and the root.
 use Rattle.std.specs.Prelude.{IsSome}
 use Rattle.std.proofs.Common.{◌≡◌, ℕ, ◌≤◌, ◌<◌, List, Option, Some, None, inl, sym, ◌∙◌, ap, arith}
-use Rattle.aij_journal.specs.declared.part.AijPart.{AijPart}
-use Rattle.aij_journal.specs.declared.part.GroupLine.{GroupLine}
-use Rattle.aij_journal.specs.Part.{IsPart}
-use Rattle.root_file.specs.declared.Root.{Root}
-use Rattle.root_file.specs.Root.{IsRoot}
-use Rattle.journal_scan.specs.Standing.{what_stands}
-use Rattle.new_database.specs.Maker.{aij_file, root_file}
+use Rattle.stable_lines.specs.aij_journal.declared.part.AijPart.{AijPart}
+use Rattle.stable_lines.specs.aij_journal.declared.part.GroupLine.{GroupLine}
+use Rattle.stable_lines.specs.aij_journal.Part.{IsPart}
+use Rattle.stable_lines.specs.root_file.declared.Root.{Root}
+use Rattle.stable_lines.specs.root_file.Root.{IsRoot}
+use Rattle.stable_lines.specs.journal_scan.Standing.{what_stands}
+use Rattle.stable_lines.specs.new_database.Maker.{aij_file, root_file}
 use Rattle.stable_lines.specs.Journal.{next_slot, next_number}
 use Rattle.stable_lines.specs.Progress.{Progress}
 use Rattle.stable_lines.specs.Facts.{PendingContents, More, Facts}

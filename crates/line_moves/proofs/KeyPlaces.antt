@@ -3,9 +3,9 @@ use Rattle.std.specs.Prelude.{if◌then◌else◌}
 use Rattle.std.proofs.lemmas.Bool.Decides.{nat_tests}
 use Rattle.std.proofs.Common.{◌≡◌, ℕ, ◌-◌, ◌%◌, ◌≤◌, nat_eq, Bool, true, false, inl, inr, ap, sym, subst, ◌∙◌, arith}
 use Rattle.rdb_types.specs.declared.keys.Dbkey.{Dbkey}
-use Rattle.rdb_page.specs.Page.{IsOwner}
-use Rattle.rdb_outside.specs.Disk.{Image}
-use Rattle.line_versions.specs.Lines.{storage_area}
+use Rattle.line_store.specs.rdb_page.Page.{IsOwner}
+use Rattle.line_store.specs.rdb_outside.Disk.{Image}
+use Rattle.stable_lines.specs.line_versions.Lines.{storage_area}
 use Rattle.stable_lines.specs.Slots.{area_file, file_of, slot_of, IsAreaFile}
 use Rattle.line_moves.specs.declared.places.Place.{Place}
 use Rattle.line_moves.specs.Contents.{IsOn}

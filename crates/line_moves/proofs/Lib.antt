@@ -1,3 +1,5 @@
+pub use Rattle.stable_lines.proofs.of_ruj_journal as of_ruj_journal
+pub use Rattle.stable_lines.proofs as of_stable_lines
 pub mod Runs
 pub mod KeyPlaces
 pub mod PageWrite

@@ -4,14 +4,14 @@ use Rattle.std.proofs.lemmas.Bool.{eqb-true, eq-eqb, and_parts, and_from}
 use Rattle.rdb_types.specs.declared.file.FileId.{FileId}
 use Rattle.rdb_types.specs.declared.keys.Dbkey.{Dbkey}
 use Rattle.rdb_types.specs.declared.keys.Line.{Line}
-use Rattle.area_files.specs.Areas.{IsDataPage}
+use Rattle.line_store.specs.area_files.Areas.{IsDataPage}
 use Rattle.stable_lines.specs.Slots.{area_file, file_of, slot_of, IsAreaFile, line_on}
 use Rattle.stable_lines.specs.Kept.{FitsClass}
 use Rattle.stable_lines.specs.Progress.{Progress}
 use Rattle.stable_lines.specs.Facts.{PendingContents, More, IsCommitted, IsChanged, HasLanded, Facts}
 use Rattle.line_moves.specs.Contents.{IsOn, IsSure, IsSurePage, PutsLine, IsFree}
-use Rattle.line_versions.specs.Lines.{storage_area}
-use Rattle.rdb_outside.specs.Disk.{Image}
+use Rattle.stable_lines.specs.line_versions.Lines.{storage_area}
+use Rattle.line_store.specs.rdb_outside.Disk.{Image}
 use Rattle.line_moves.specs.declared.places.Place.{Place}
 use Rattle.line_moves.specs.Changes.{IsPlaceOf, MayPut}
 use Rattle.line_moves.proofs.KeyPlaces.{area_is}

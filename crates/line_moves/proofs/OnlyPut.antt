@@ -4,10 +4,10 @@ use Rattle.rdb_types.specs.declared.file.FileId.{FileId}
 use Rattle.rdb_types.specs.declared.file.FileKind.TheVariants.{Area}
 use Rattle.rdb_types.specs.declared.keys.Dbkey.{Dbkey}
 use Rattle.rdb_types.specs.declared.keys.Line.{Line}
-use Rattle.rdb_outside.specs.Disk.{Image, View, SameContent, Puts}
-use Rattle.area_files.specs.Areas.{IsDataPage}
-use Rattle.space_pages.specs.Space.{IsSpace}
-use Rattle.line_versions.specs.Lines.{storage_area}
+use Rattle.line_store.specs.rdb_outside.Disk.{Image, View, SameContent, Puts}
+use Rattle.line_store.specs.area_files.Areas.{IsDataPage}
+use Rattle.stable_lines.specs.space_pages.Space.{IsSpace}
+use Rattle.stable_lines.specs.line_versions.Lines.{storage_area}
 use Rattle.stable_lines.specs.Slots.{area_file, file_of, slot_of, line_on, line_at}
 use Rattle.stable_lines.proofs.Never.{nothing_on, space_owner}
 use Rattle.line_moves.specs.declared.places.Place.{Place}

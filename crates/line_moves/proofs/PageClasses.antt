@@ -1,12 +1,12 @@
 -- Pages keep the classes of their areas, and their owners.
 use Rattle.std.proofs.Common.{◌≡◌, ◌≢◌, ℕ, ◌-◌, ◌≤◌, IsTrue, List, ⊎_elim, ap, sym, subst, ◌∙◌, arith}
-use Rattle.rdb_page.specs.Page.{class_at}
+use Rattle.line_store.specs.rdb_page.Page.{class_at}
 use Rattle.rdb_types.specs.declared.file.FileId.{FileId}
 use Rattle.rdb_types.specs.declared.file.FileKind.TheVariants.{Area}
-use Rattle.rdb_outside.specs.Disk.{View, Pending, OnlyReads}
+use Rattle.line_store.specs.rdb_outside.Disk.{View, Pending, OnlyReads}
 use Rattle.stable_lines.specs.Facts.{More}
 use Rattle.line_moves.specs.Changes.{IsForArea}
-use Rattle.area_files.specs.Areas.{IsDataPage, space_page_of}
+use Rattle.line_store.specs.area_files.Areas.{IsDataPage, space_page_of}
 use Rattle.stable_lines.specs.Slots.{area_file, owner_at}
 use Rattle.line_moves.specs.declared.places.Place.{Place}
 use Rattle.line_moves.specs.Calls.{OnlyWrites}

@@ -4,12 +4,12 @@ use Rattle.rdb_types.specs.declared.file.FileId.{FileId}
 use Rattle.rdb_types.specs.declared.file.FileKind.TheVariants.{Root, Area, Ruj, Aij}
 use Rattle.rdb_types.specs.declared.keys.Dbkey.{Dbkey}
 use Rattle.rdb_types.specs.declared.keys.Line.{Line}
-use Rattle.area_files.specs.Areas.{IsDataPage, space_page_of}
-use Rattle.space_pages.specs.Space.{owner_of}
-use Rattle.new_database.specs.Maker.{root_file, aij_file}
+use Rattle.line_store.specs.area_files.Areas.{IsDataPage, space_page_of}
+use Rattle.stable_lines.specs.space_pages.Space.{owner_of}
+use Rattle.stable_lines.specs.new_database.Maker.{root_file, aij_file}
 use Rattle.stable_lines.specs.Slots.{ruj_file, area_file, file_of, slot_of, owner_at, line_on}
 use Rattle.stable_lines.specs.Journal.{Journal}
-use Rattle.rdb_page.specs.Whole.{IsPageOf}
+use Rattle.line_store.specs.rdb_page.Whole.{IsPageOf}
 use Rattle.stable_lines.specs.Kept.{FitsClass}
 use Rattle.stable_lines.specs.Progress.{Open, Flight, Progress}
 use Rattle.stable_lines.specs.Facts.{PendingContents, More, OnPage, HasEnded, IsCommitted, IsChanged, OpenFacts, GroupsStand, JournalFacts, FormerFacts, FlightFacts, HasLanded, RootStands, PageFacts, BelowFacts, Facts}

@@ -2,11 +2,11 @@
 use Rattle.std.proofs.Common.{◌≡◌, ◌≢◌, ℕ, ◌+◌, ◌<◌, List, take, drop, ⊎_elim, sym, subst, ◌∙◌}
 use Rattle.rdb_types.specs.declared.keys.Dbkey.{Dbkey}
 use Rattle.rdb_types.specs.declared.keys.Line.{Line}
-use Rattle.rdb_page.specs.declared.head.Head.{Head}
-use Rattle.rdb_page.specs.Lines.{line_place, IsLine}
-use Rattle.rdb_page.specs.Page.{StandsAs, class_at, lines_of}
+use Rattle.line_store.specs.rdb_page.declared.head.Head.{Head}
+use Rattle.line_store.specs.rdb_page.Lines.{line_place, IsLine}
+use Rattle.line_store.specs.rdb_page.Page.{StandsAs, class_at, lines_of}
 use Rattle.stable_lines.specs.Slots.{line_on}
-use Rattle.rdb_page.specs.Whole.{IsPageOf, IsUsedPage}
+use Rattle.line_store.specs.rdb_page.Whole.{IsPageOf, IsUsedPage}
 use Rattle.line_moves.specs.declared.places.Place.{Place}
 use Rattle.line_moves.specs.Contents.{PutsLine}
 use Rattle.line_moves.specs.Changes.{IsPlaceOf}

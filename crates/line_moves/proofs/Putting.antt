@@ -5,11 +5,11 @@ use Rattle.slot_fields.proofs.Laws.{part_before, part_behind}
 use Rattle.slot_fields.specs.Fields.{gap}
 use Rattle.rdb_types.specs.declared.keys.Dbkey.{Dbkey}
 use Rattle.rdb_types.specs.declared.keys.Line.{Line}
-use Rattle.rdb_page.specs.declared.head.Head.{Head}
-use Rattle.rdb_page.specs.Lines.{line_place, IsLine}
-use Rattle.rdb_page.specs.Page.{IsClass, IsHead, HasNoMore, lines_of, lines_end, class_at, head_fields}
+use Rattle.line_store.specs.rdb_page.declared.head.Head.{Head}
+use Rattle.line_store.specs.rdb_page.Lines.{line_place, IsLine}
+use Rattle.line_store.specs.rdb_page.Page.{IsClass, IsHead, HasNoMore, lines_of, lines_end, class_at, head_fields}
 use Rattle.stable_lines.specs.Slots.{owner_at, has_place, line_on}
-use Rattle.rdb_page.specs.Whole.{IsUsedPage}
+use Rattle.line_store.specs.rdb_page.Whole.{IsUsedPage}
 use Rattle.line_moves.specs.Contents.{IsOn, PutsLine}
 use Rattle.line_moves.proofs.Reading.{owner_is, class_is, line_is, line_none, same_place}
 

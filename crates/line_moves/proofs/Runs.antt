@@ -2,9 +2,9 @@
 use Rattle.std.specs.Prelude.{OnOk, OnErr, Ok, Err}
 use Rattle.std.proofs.Common.{◌≡◌, ℕ, IsTrue, Result, List, ◌⊎◌, inl, inr, ⊎_elim, sym, subst, ◌∙◌, arith}
 use Rattle.rdb_types.specs.declared.file.FileId.{FileId}
-use Rattle.rdb_outside.specs.Disk.{Image, View, LeftNow, Pending, Counts, Keeps, SameContent, Puts, Adds, IsPending, OnlyReads}
-use Rattle.rdb_outside.specs.Moments.{each_slot, goes_on, weaker}
-use Rattle.rdb_outside.specs.Runs.{no_calls, one_call}
+use Rattle.line_store.specs.rdb_outside.Disk.{Image, View, LeftNow, Pending, Counts, Keeps, SameContent, Puts, Adds, IsPending, OnlyReads}
+use Rattle.line_store.specs.rdb_outside.Moments.{each_slot, goes_on, weaker}
+use Rattle.line_store.specs.rdb_outside.Runs.{no_calls, one_call}
 use Rattle.stable_lines.specs.Progress.{Progress}
 use Rattle.stable_lines.specs.Facts.{More, Facts}
 use Rattle.stable_lines.proofs.Fewer.{fewer}

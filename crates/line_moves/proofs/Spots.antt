@@ -2,13 +2,13 @@
 use Rattle.std.proofs.Common.{◌≡◌, ◌≢◌, ℕ, ◌≤◌, ◌<◌, Bool, true, false, List, [], ◌∷◌, length, ◌⊎◌, ⊎_elim, sym, subst, ◌∙◌, arith, refl}
 use Rattle.std.proofs.lemmas.Bool.{eq-eqb, le-leb, lt-ltb, and_from}
 use Rattle.rdb_types.specs.declared.keys.Dbkey.{Dbkey}
-use Rattle.rdb_page.specs.declared.head.Head.{Head}
+use Rattle.line_store.specs.rdb_page.declared.head.Head.{Head}
 use Rattle.slot_fields.proofs.Laws.{word_not_zeros}
 use Rattle.rdb_types.specs.declared.keys.Line.{Line}
-use Rattle.rdb_page.specs.Whole.{IsPageOf, IsUsedPage}
+use Rattle.line_store.specs.rdb_page.Whole.{IsPageOf, IsUsedPage}
 use Rattle.stable_lines.proofs.Never.{zeros_owner}
-use Rattle.rdb_page.specs.Page.{IsHead, IsUnused, StandsAs, class_at, lines_of}
-use Rattle.rdb_page.specs.Lines.{IsLine, never}
+use Rattle.line_store.specs.rdb_page.Page.{IsHead, IsUnused, StandsAs, class_at, lines_of}
+use Rattle.line_store.specs.rdb_page.Lines.{IsLine, never}
 use Rattle.stable_lines.specs.Slots.{owner_at, has_place, line_on}
 use Rattle.line_moves.specs.declared.places.Place.{Place}
 use Rattle.line_moves.specs.Changes.{IsPlaceOf}

@@ -3,7 +3,7 @@ use Rattle.std.proofs.Common.{ℕ, ◌-◌, ◌≤◌, List, sym, subst}
 use Rattle.rdb_types.specs.declared.file.FileId.{FileId}
 use Rattle.rdb_types.specs.declared.keys.Dbkey.{Dbkey}
 use Rattle.stable_lines.specs.Slots.{area_file, file_of, slot_of, IsAreaFile}
-use Rattle.area_files.specs.Areas.{IsDataPage}
+use Rattle.line_store.specs.area_files.Areas.{IsDataPage}
 use Rattle.stable_lines.specs.Progress.{Progress}
 use Rattle.stable_lines.specs.Facts.{PendingContents, Facts}
 use Rattle.line_moves.specs.Contents.{IsOn, IsSurePage}

@@ -4,14 +4,14 @@ use Rattle.rdb_types.specs.declared.keys.Dbkey.{Dbkey}
 use Rattle.rdb_types.specs.declared.keys.Line.{Line}
 use Rattle.rdb_types.specs.declared.keys.LineState.{LineState}
 use Rattle.rdb_types.specs.declared.keys.LineState.TheVariants.{Never, Present, Erased}
-use Rattle.rdb_page.specs.Lines.{Agrees}
-use Rattle.rdb_page.specs.Page.{class_at}
-use Rattle.line_view.specs.Knowledge.{line_in}
-use Rattle.line_versions.specs.Lines.{shown, shown_as}
+use Rattle.line_store.specs.rdb_page.Lines.{Agrees}
+use Rattle.line_store.specs.rdb_page.Page.{class_at}
+use Rattle.line_store.specs.line_view.Knowledge.{line_in}
+use Rattle.stable_lines.specs.line_versions.Lines.{shown, shown_as}
 use Rattle.rdb_types.specs.declared.keys.Tsn.{Tsn}
-use Rattle.ruj_journal.specs.declared.entry.RujEntry.{RujEntry}
-use Rattle.ruj_journal.specs.Entry.{IsEntry}
-use Rattle.ruj_journal.proofs.Readings.{one_entry}
+use Rattle.stable_lines.specs.ruj_journal.declared.entry.RujEntry.{RujEntry}
+use Rattle.stable_lines.specs.ruj_journal.Entry.{IsEntry}
+use Rattle.stable_lines.proofs.of_ruj_journal.Readings.{one_entry}
 use Rattle.stable_lines.specs.Slots.{ruj_file, line_on, Undo, entry_at}
 use Rattle.stable_lines.specs.Progress.{Open, Flight, Progress}
 use Rattle.stable_lines.specs.Facts.{PendingContents, OnPage, IsNotOpen, IsCommitted, IsChanged, Facts}

@@ -1,7 +1,7 @@
 -- What a run of device calls does, of which one at most writes.
 use Rattle.std.specs.Prelude.{ℕ, ◌≤◌, ◌≡◌, ◌≢◌, ◌⊎◌, IsTrue, List}
 use Rattle.rdb_types.specs.declared.file.FileId.{FileId}
-use Rattle.rdb_outside.specs.Disk.{View, Pending, LeavesOnly, IsPending}
+use Rattle.line_store.specs.rdb_outside.Disk.{View, Pending, LeavesOnly, IsPending}
 
 -- All slots but one are as they were. A crash at any moment of the run leaves what one at its beginning might have left, or what one at its end may leave.
 pub record OnlyWrites (file : FileId) (slot : ℕ) (old new : View) : Type 0 where

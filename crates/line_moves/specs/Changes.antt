@@ -3,11 +3,11 @@ use Rattle.std.specs.Prelude.{ℕ, ◌-◌, ◌≤◌, ◌<◌, ◌≡◌, ◌�
 use Rattle.rdb_types.specs.declared.keys.Dbkey.{Dbkey}
 use Rattle.rdb_types.specs.declared.keys.Line.{Line}
 use Rattle.rdb_types.specs.declared.keys.Tsn.{Tsn}
-use Rattle.area_files.specs.Areas.{IsDataPage, space_page_of}
-use Rattle.rdb_outside.specs.Disk.{Image}
-use Rattle.space_pages.specs.Space.{owner_of}
-use Rattle.rdb_page.specs.Lines.{IsAllowedLine}
-use Rattle.rdb_page.specs.Page.{IsOwner, class_at}
+use Rattle.line_store.specs.area_files.Areas.{IsDataPage, space_page_of}
+use Rattle.line_store.specs.rdb_outside.Disk.{Image}
+use Rattle.stable_lines.specs.space_pages.Space.{owner_of}
+use Rattle.line_store.specs.rdb_page.Lines.{IsAllowedLine}
+use Rattle.line_store.specs.rdb_page.Page.{IsOwner, class_at}
 use Rattle.stable_lines.specs.Slots.{area_file, owner_at, has_place, line_at}
 use Rattle.stable_lines.specs.Journal.{next_slot}
 use Rattle.stable_lines.specs.Progress.{Open, Flight, Progress}

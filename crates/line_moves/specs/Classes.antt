@@ -2,9 +2,9 @@
 use Rattle.std.specs.Prelude.{ℕ, ◌-◌, ◌≤◌, ◌≡◌, List, slice_get, Some}
 use Rattle.rdb_types.specs.declared.keys.Dbkey.{Dbkey}
 use Rattle.rdb_types.specs.declared.keys.Line.{Line}
-use Rattle.rdb_page.specs.Page.{class_at}
-use Rattle.rdb_outside.specs.Disk.{Image}
-use Rattle.area_files.specs.Areas.{IsDataPage}
+use Rattle.line_store.specs.rdb_page.Page.{class_at}
+use Rattle.line_store.specs.rdb_outside.Disk.{Image}
+use Rattle.line_store.specs.area_files.Areas.{IsDataPage}
 use Rattle.stable_lines.specs.Slots.{area_file, owner_at, IsAreaFile}
 use Rattle.stable_lines.specs.Facts.{PendingContents}
 use Rattle.line_moves.specs.declared.places.Place.{Place}

@@ -1,13 +1,13 @@
 -- What the pending facts ask of one content of a page.
 use Rattle.std.specs.Prelude.{ℕ, ◌-◌, ◌≤◌, ◌<◌, ◌≡◌, ◌≢◌, ◌⊎◌, List, slice_get, Some}
 use Rattle.rdb_types.specs.declared.keys.Dbkey.{Dbkey}
-use Rattle.rdb_page.specs.Page.{class_at}
-use Rattle.area_files.specs.Areas.{space_page_of}
-use Rattle.space_pages.specs.Space.{owner_of}
-use Rattle.aij_journal.specs.declared.part.GroupLine.{GroupLine}
-use Rattle.line_view.specs.Knowledge.{line_in}
+use Rattle.line_store.specs.rdb_page.Page.{class_at}
+use Rattle.line_store.specs.area_files.Areas.{space_page_of}
+use Rattle.stable_lines.specs.space_pages.Space.{owner_of}
+use Rattle.stable_lines.specs.aij_journal.declared.part.GroupLine.{GroupLine}
+use Rattle.line_store.specs.line_view.Knowledge.{line_in}
 use Rattle.stable_lines.specs.Slots.{area_file, file_of, slot_of, owner_at, line_on}
-use Rattle.rdb_page.specs.Whole.{IsPageOf}
+use Rattle.line_store.specs.rdb_page.Whole.{IsPageOf}
 use Rattle.stable_lines.specs.Kept.{FitsClass}
 use Rattle.stable_lines.specs.Progress.{Flight, Progress, lines_with}
 use Rattle.stable_lines.specs.Facts.{PendingContents, IsCommitted, IsChanged, HasLanded}

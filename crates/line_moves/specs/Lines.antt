@@ -2,11 +2,11 @@
 use Rattle.std.specs.Prelude.{ℕ, ◌-◌, ◌≤◌, ◌<◌, ◌≡◌, ◌≢◌, ◌⊎◌, List, slice_get, Some}
 use Rattle.rdb_types.specs.declared.keys.Dbkey.{Dbkey}
 use Rattle.rdb_types.specs.declared.keys.Line.{Line}
-use Rattle.rdb_page.specs.declared.head.Head.{Head}
-use Rattle.rdb_page.specs.Lines.{IsLine, never}
-use Rattle.rdb_page.specs.Page.{IsHead, IsUnused, class_at, lines_of}
-use Rattle.rdb_page.specs.Whole.{IsPageOf}
-use Rattle.rdb_outside.specs.Disk.{Image, View, Pending}
+use Rattle.line_store.specs.rdb_page.declared.head.Head.{Head}
+use Rattle.line_store.specs.rdb_page.Lines.{IsLine, never}
+use Rattle.line_store.specs.rdb_page.Page.{IsHead, IsUnused, class_at, lines_of}
+use Rattle.line_store.specs.rdb_page.Whole.{IsPageOf}
+use Rattle.line_store.specs.rdb_outside.Disk.{Image, View, Pending}
 use Rattle.stable_lines.specs.Slots.{area_file, owner_at, line_on, line_at}
 use Rattle.stable_lines.specs.Progress.{Progress}
 use Rattle.stable_lines.specs.Facts.{PendingContents}

@@ -1,10 +1,10 @@
 // Barriers.
 ghost use Rattle.std.specs.Prelude.{OnOk, IsTrue};
-ghost use Rattle.rdb_outside.specs.Disk.{Pending, Counts, IsStable, OnlyReads};
+ghost use Rattle.line_store.specs.rdb_outside.Disk.{Pending, Counts, IsStable, OnlyReads};
 ghost use Rattle.stable_lines.specs.Progress.{Progress};
 ghost use Rattle.stable_lines.specs.Facts.{Facts};
 
-use rdb_outside::{Disk, Failed};
+use line_store::rdb_outside::{Disk, Failed};
 
 /// Makes all that was written stable: behind it a crash leaves what reads give.
 pub fn make_stable<D: Disk>(disk: &mut D) -> Result<(), Failed>

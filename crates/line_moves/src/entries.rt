@@ -1,10 +1,10 @@
 // Before-images.
 ghost use Rattle.std.specs.Prelude.{◌≡◌, ◌-◌, ◌^◌, ◌<◌, ℕ, length, Some, OnOk, IsErrOf, IsTrue};
 ghost use Rattle.rdb_types.specs.declared.file.FileId.{FileId as File};
-ghost use Rattle.rdb_page.specs.Whole.{IsPageOf};
-ghost use Rattle.rdb_outside.specs.Causes.{Rose};
-ghost use Rattle.rdb_outside.specs.Disk.{Adds, Pending};
-ghost use Rattle.ruj_journal.specs.Entry.{IsEntry};
+ghost use Rattle.line_store.specs.rdb_page.Whole.{IsPageOf};
+ghost use Rattle.line_store.specs.rdb_outside.Causes.{Rose};
+ghost use Rattle.line_store.specs.rdb_outside.Disk.{Adds, Pending};
+ghost use Rattle.stable_lines.specs.ruj_journal.Entry.{IsEntry};
 ghost use Rattle.stable_lines.specs.Slots.{area_file as file_named, ruj_file as journal_named, entry_at, line_at as line_in_image};
 ghost use Rattle.stable_lines.specs.Image.{IsNoneOf};
 ghost use Rattle.stable_lines.specs.Progress.{Open, Progress};
@@ -15,9 +15,9 @@ ghost use Rattle.line_moves.specs.Changes.{IsPlaceOf};
 use crate::lines::line_at;
 use crate::places::{Place, ruj_file};
 use line_store::Fault;
-use rdb_outside::Disk;
+use line_store::rdb_outside::Disk;
 use rdb_types::{Dbkey, Tsn};
-use ruj_journal::{RujEntry, put_entry};
+use stable_lines::ruj_journal::{RujEntry, put_entry};
 
 /// Journals a line as it stands, in a slot behind the entries of the transaction that are stable.
 pub fn write_before_image<D: Disk>(

@@ -1,11 +1,11 @@
 // The lines of a transaction on one page, written at once.
 ghost use Rattle.std.specs.Prelude.{◌≡◌, ◌-◌, ◌≤◌, ◌<◌, ℕ, true, length, slice_get, Some, IfOk, OnErr, IsErrOf, IsTrue};
 ghost use Rattle.rdb_types.specs.declared.file.FileId.{FileId as File};
-ghost use Rattle.rdb_page.specs.Page.{IsClass, IsUnused, class_at};
-ghost use Rattle.rdb_page.specs.Whole.{IsPageOf, IsUsedPage};
-ghost use Rattle.rdb_outside.specs.Causes.{Rose};
-ghost use Rattle.rdb_outside.specs.Disk.{Pending};
-ghost use Rattle.area_files.specs.Areas.{IsDataPage};
+ghost use Rattle.line_store.specs.rdb_page.Page.{IsClass, IsUnused, class_at};
+ghost use Rattle.line_store.specs.rdb_page.Whole.{IsPageOf, IsUsedPage};
+ghost use Rattle.line_store.specs.rdb_outside.Causes.{Rose};
+ghost use Rattle.line_store.specs.rdb_outside.Disk.{Pending};
+ghost use Rattle.line_store.specs.area_files.Areas.{IsDataPage};
 ghost use Rattle.stable_lines.specs.Slots.{IsAreaFile, area_file as file_named};
 ghost use Rattle.stable_lines.specs.Progress.{Progress};
 ghost use Rattle.stable_lines.specs.Facts.{Facts};
@@ -17,10 +17,10 @@ ghost use Rattle.line_moves.specs.Lines.{AllFit, AllFitBegun, AreDistinct, ArePu
 
 use crate::pages::{NoPlace, put_on};
 use crate::places::{Place, area_file};
-use area_files::slot_of;
 use line_store::Fault;
-use rdb_outside::Disk;
-use rdb_page::{Head, put_head};
+use line_store::area_files::slot_of;
+use line_store::rdb_outside::Disk;
+use line_store::rdb_page::{Head, put_head};
 use rdb_types::{Dbkey, Line};
 use slot_fields::is_zeros;
 

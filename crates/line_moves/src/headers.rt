@@ -1,18 +1,18 @@
 // The headers of the before-image journals.
 ghost use Rattle.std.specs.Prelude.{◌≡◌, ◌≢◌, ◌≤◌, ◌<◌, ◌^◌, ◌⊎◌, ℕ, List, Some, None, OnOk, IsTrue};
-ghost use Rattle.rdb_outside.specs.Disk.{Pending, Counts};
-ghost use Rattle.root_file.specs.declared.Root.{Root};
-ghost use Rattle.root_file.specs.Root.{IsRoot};
-ghost use Rattle.new_database.specs.Maker.{root_file};
+ghost use Rattle.line_store.specs.rdb_outside.Disk.{Pending, Counts};
+ghost use Rattle.stable_lines.specs.root_file.declared.Root.{Root};
+ghost use Rattle.stable_lines.specs.root_file.Root.{IsRoot};
+ghost use Rattle.stable_lines.specs.new_database.Maker.{root_file};
 ghost use Rattle.stable_lines.specs.Slots.{named, ruj_file as journal_named};
 ghost use Rattle.stable_lines.specs.Progress.{Open, Progress};
 ghost use Rattle.stable_lines.specs.Facts.{Facts};
 ghost use Rattle.line_moves.specs.Calls.{OnlyWrites};
 
 use crate::places::ruj_file;
-use rdb_outside::{Disk, Failed};
+use line_store::rdb_outside::{Disk, Failed};
 use rdb_types::Tsn;
-use ruj_journal::put_header;
+use stable_lines::ruj_journal::put_header;
 
 /// Writes the header that names a member's open transaction.
 pub fn open_header<D: Disk>(disk: &mut D, member: u32, tsn: Tsn) -> Result<(), Failed>

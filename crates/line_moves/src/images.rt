@@ -1,10 +1,10 @@
 // After-images, commit slots, and the root.
 ghost use Rattle.std.specs.Prelude.{◌≡◌, ◌≤◌, ◌<◌, ◌+◌, ◌^◌, ◌⊎◌, ℕ, List, Some, None, IsSome, OnOk, IsTrue};
-ghost use Rattle.rdb_outside.specs.Disk.{Pending, Counts};
-ghost use Rattle.aij_journal.specs.Part.{IsAllowedWhat};
-ghost use Rattle.root_file.specs.Root.{IsAllowed, IsRoot};
-ghost use Rattle.journal_scan.specs.Standing.{what_stands};
-ghost use Rattle.new_database.specs.Maker.{aij_file as aij_named, root_file as root_named};
+ghost use Rattle.line_store.specs.rdb_outside.Disk.{Pending, Counts};
+ghost use Rattle.stable_lines.specs.aij_journal.Part.{IsAllowedWhat};
+ghost use Rattle.stable_lines.specs.root_file.Root.{IsAllowed, IsRoot};
+ghost use Rattle.stable_lines.specs.journal_scan.Standing.{what_stands};
+ghost use Rattle.stable_lines.specs.new_database.Maker.{aij_file as aij_named, root_file as root_named};
 ghost use Rattle.stable_lines.specs.Journal.{next_slot, commit_of};
 ghost use Rattle.stable_lines.specs.Progress.{Flight, Progress};
 ghost use Rattle.stable_lines.specs.Facts.{Facts};
@@ -12,10 +12,10 @@ ghost use Rattle.line_moves.specs.Calls.{OnlyWrites};
 ghost use Rattle.line_moves.specs.Changes.{IsCommitOf};
 
 use crate::places::{aij_file, root_file};
-use aij_journal::{AijPart, put_slot};
-use rdb_outside::{Disk, Failed};
+use line_store::rdb_outside::{Disk, Failed};
 use rdb_types::Tsn;
-use root_file::{Root, put_root};
+use stable_lines::aij_journal::{AijPart, put_slot};
+use stable_lines::root_file::{Root, put_root};
 
 /// Journals a line as the commit leaves it, in a slot behind the groups.
 pub fn write_after_image<D: Disk>(disk: &mut D, slot: u32, part: &AijPart) -> Result<(), Failed>

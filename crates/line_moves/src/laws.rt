@@ -2,10 +2,10 @@
 ghost use Rattle.std.specs.Prelude.{◌≡◌, ◌+◌, ◌<◌, ℕ, length, IsTrue};
 ghost use Rattle.rdb_types.specs.declared.file.FileId.{FileId};
 ghost use Rattle.rdb_types.specs.declared.keys.Tsn.{Tsn};
-ghost use Rattle.rdb_outside.specs.Disk.{Pending, IsStable};
-ghost use Rattle.rdb_outside.specs.Moments.{Since};
-ghost use Rattle.journal_scan.specs.Standing.{what_stands};
-ghost use Rattle.new_database.specs.Maker.{aij_file};
+ghost use Rattle.line_store.specs.rdb_outside.Disk.{Pending, IsStable};
+ghost use Rattle.line_store.specs.rdb_outside.Moments.{Since};
+ghost use Rattle.stable_lines.specs.journal_scan.Standing.{what_stands};
+ghost use Rattle.stable_lines.specs.new_database.Maker.{aij_file};
 ghost use Rattle.stable_lines.specs.Journal.{commit_of};
 ghost use Rattle.stable_lines.specs.Progress.{Flight, Progress, landed};
 ghost use Rattle.stable_lines.specs.Facts.{Facts};
@@ -13,7 +13,7 @@ ghost use Rattle.stable_lines.specs.History.{History, StandsFrom, IsAt};
 ghost use Rattle.line_moves.specs.Calls.{OnlyWrites};
 ghost use Rattle.line_moves.specs.Changes.{IsCommitOf};
 
-use rdb_outside::Disk;
+use line_store::rdb_outside::Disk;
 
 /// While the facts stay, so does what images since a commit stand for, at every moment of a call.
 pub fn images_at_every_moment<D: Disk>(before: &D, after: &D)

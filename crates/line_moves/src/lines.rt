@@ -1,18 +1,18 @@
 // Lines as they stand on a disk.
 ghost use Rattle.std.specs.Prelude.{◌≡◌, ◌-◌, ℕ, length, IfOk, OnErr, IsErrOf, IsTrue};
 ghost use Rattle.rdb_types.specs.declared.file.FileId.{FileId as File};
-ghost use Rattle.rdb_page.specs.Lines.{never as never_used, IsAllowedLine};
-ghost use Rattle.rdb_page.specs.Whole.{IsPageOf};
-ghost use Rattle.rdb_outside.specs.Causes.{Rose};
-ghost use Rattle.rdb_outside.specs.Disk.{OnlyReads};
+ghost use Rattle.line_store.specs.rdb_page.Lines.{never as never_used, IsAllowedLine};
+ghost use Rattle.line_store.specs.rdb_page.Whole.{IsPageOf};
+ghost use Rattle.line_store.specs.rdb_outside.Causes.{Rose};
+ghost use Rattle.line_store.specs.rdb_outside.Disk.{OnlyReads};
 ghost use Rattle.stable_lines.specs.Slots.{area_file as file_named, line_on, line_at as line_in_image};
 ghost use Rattle.line_moves.specs.Changes.{IsPlaceOf};
 
 use crate::places::{Place, area_file};
-use area_files::slot_of;
 use line_store::Fault;
-use rdb_outside::Disk;
-use rdb_page::{BadPage, lines_of, read_head, read_line};
+use line_store::area_files::slot_of;
+use line_store::rdb_outside::Disk;
+use line_store::rdb_page::{BadPage, lines_of, read_head, read_line};
 use rdb_types::{Dbkey, Image, Line, LineState, Tsn};
 
 // A line that was never used.

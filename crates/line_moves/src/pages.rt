@@ -2,12 +2,12 @@
 ghost use Rattle.std.specs.Prelude.{◌≡◌, ◌≢◌, ◌-◌, ℕ, true, length, OnOk, OnErr, IsErrOf, IsTrue};
 ghost use Rattle.rdb_types.specs.declared.file.FileId.{FileId as File};
 ghost use Rattle.rdb_types.specs.declared.keys.Dbkey.{Dbkey as Key};
-ghost use Rattle.rdb_page.specs.Lines.{IsAllowedLine};
-ghost use Rattle.rdb_page.specs.Page.{class_at};
-ghost use Rattle.rdb_page.specs.Whole.{IsPageOf};
-ghost use Rattle.rdb_outside.specs.Causes.{Rose};
-ghost use Rattle.rdb_outside.specs.Disk.{Pending};
-ghost use Rattle.area_files.specs.Areas.{IsDataPage};
+ghost use Rattle.line_store.specs.rdb_page.Lines.{IsAllowedLine};
+ghost use Rattle.line_store.specs.rdb_page.Page.{class_at};
+ghost use Rattle.line_store.specs.rdb_page.Whole.{IsPageOf};
+ghost use Rattle.line_store.specs.rdb_outside.Causes.{Rose};
+ghost use Rattle.line_store.specs.rdb_outside.Disk.{Pending};
+ghost use Rattle.line_store.specs.area_files.Areas.{IsDataPage};
 ghost use Rattle.stable_lines.specs.Slots.{IsAreaFile, area_file as file_named, has_place, line_on, line_at as line_in_image};
 ghost use Rattle.stable_lines.specs.Progress.{Progress};
 ghost use Rattle.stable_lines.specs.Facts.{Facts};
@@ -18,10 +18,10 @@ ghost use Rattle.line_moves.specs.declared.places.Place.{Place as Spot};
 ghost use Rattle.line_moves.specs.Classes.{HaveTheirClasses, KeepsOwners};
 
 use crate::places::{Place, area_file};
-use area_files::slot_of;
 use line_store::Fault;
-use rdb_outside::Disk;
-use rdb_page::{is_allowed_line, lines_of, put_line, read_head};
+use line_store::area_files::slot_of;
+use line_store::rdb_outside::Disk;
+use line_store::rdb_page::{is_allowed_line, lines_of, put_line, read_head};
 use rdb_types::{Dbkey, Line};
 
 /// The page has no place for the line, or the line is too long for it.

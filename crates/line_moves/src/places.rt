@@ -1,10 +1,10 @@
 // Where lines stand.
 ghost use Rattle.std.specs.Prelude.{◌≡◌, IfSome, IfNone};
-ghost use Rattle.new_database.specs.Maker.{aij_file as aij_named, root_file as root_named};
+ghost use Rattle.stable_lines.specs.new_database.Maker.{aij_file as aij_named, root_file as root_named};
 ghost use Rattle.stable_lines.specs.Slots.{area_file as file_named, ruj_file as journal_named};
 ghost use Rattle.line_moves.specs.Changes.{IsPlaceOf};
 
-use area_files::storage_area;
+use line_store::area_files::storage_area;
 use rdb_types::{Dbkey, FileId, FileKind};
 
 /// The number of an area file, and a page of it.

@@ -1,10 +1,10 @@
 // The owners of pages, on their space pages.
 ghost use Rattle.std.specs.Prelude.{◌≡◌, ◌≤◌, ◌-◌, ℕ, OnOk, IsErrOf, IsTrue};
 ghost use Rattle.rdb_types.specs.declared.file.FileId.{FileId as File};
-ghost use Rattle.rdb_outside.specs.Causes.{Rose};
-ghost use Rattle.rdb_outside.specs.Disk.{Pending};
-ghost use Rattle.area_files.specs.Areas.{IsDataPage, space_page_of as space_of};
-ghost use Rattle.space_pages.specs.Space.{IsSpace, IsBeside, owner_of};
+ghost use Rattle.line_store.specs.rdb_outside.Causes.{Rose};
+ghost use Rattle.line_store.specs.rdb_outside.Disk.{Pending};
+ghost use Rattle.line_store.specs.area_files.Areas.{IsDataPage, space_page_of as space_of};
+ghost use Rattle.stable_lines.specs.space_pages.Space.{IsSpace, IsBeside, owner_of};
 ghost use Rattle.stable_lines.specs.Slots.{area_file as file_named, IsAreaFile};
 ghost use Rattle.stable_lines.specs.Progress.{Progress};
 ghost use Rattle.stable_lines.specs.Facts.{Facts};
@@ -12,10 +12,10 @@ ghost use Rattle.line_moves.specs.Calls.{OnlyWrites};
 ghost use Rattle.line_moves.specs.Changes.{IsForArea, KeepsLines};
 
 use crate::places::{Place, area_file};
-use area_files::{slot_of, space_page_of};
 use line_store::Fault;
-use rdb_outside::Disk;
-use space_pages::{check, owner, set};
+use line_store::area_files::{slot_of, space_page_of};
+use line_store::rdb_outside::Disk;
+use stable_lines::space_pages::{check, owner, set};
 
 /// Says on the space page that the logical area owns the page. Nothing is written where it says so already.
 pub fn enter_page<D: Disk>(disk: &mut D, place: Place, area: u32) -> Result<(), Fault>

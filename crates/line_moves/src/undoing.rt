@@ -2,9 +2,9 @@
 ghost use Rattle.std.specs.Prelude.{◌≡◌, ◌≢◌, ◌-◌, ◌+◌, ◌⊎◌, length, slice_get, ℕ, Some, Ok, OnOk, IsErrOf, IsTrue};
 ghost use Rattle.rdb_types.specs.declared.file.FileId.{FileId as File};
 ghost use Rattle.rdb_types.specs.declared.keys.Dbkey.{Dbkey as Key};
-ghost use Rattle.rdb_outside.specs.Causes.{Rose};
-ghost use Rattle.rdb_outside.specs.Disk.{Pending, OnlyReads};
-ghost use Rattle.area_files.specs.Areas.{IsDataPage};
+ghost use Rattle.line_store.specs.rdb_outside.Causes.{Rose};
+ghost use Rattle.line_store.specs.rdb_outside.Disk.{Pending, OnlyReads};
+ghost use Rattle.line_store.specs.area_files.Areas.{IsDataPage};
 ghost use Rattle.stable_lines.specs.Slots.{IsAreaFile, Undo, area_file as file_named, line_at as line_named};
 ghost use Rattle.stable_lines.specs.Progress.{Open, Progress};
 ghost use Rattle.stable_lines.specs.Facts.{IsNotOpen, Facts};
@@ -18,9 +18,9 @@ use crate::lines::line_at;
 use crate::pages::change_line;
 use crate::places::{Place, place_of, ruj_file};
 use line_store::Fault;
-use rdb_outside::Disk;
+use line_store::rdb_outside::Disk;
 use rdb_types::Tsn;
-use ruj_journal::read_entry;
+use stable_lines::ruj_journal::read_entry;
 
 /// What the undoing of an entry did.
 #[derive(Clone, Copy, Debug, PartialEq, Eq)]

@@ -3,9 +3,9 @@ use Rattle.std.proofs.Common.{◌≡◌, ◌≢◌, ℕ, ◌-◌, ◌≤◌, Som
 use Rattle.rdb_types.specs.declared.keys.Dbkey.{Dbkey}
 use Rattle.rdb_types.specs.declared.keys.Line.{Line}
 use Rattle.rdb_outside.specs.Disk.{Image}
-use Rattle.stable_lines.specs.Slots.{Undo, line_at}
-use Rattle.stable_lines.specs.Progress.{Open, Progress}
-use Rattle.stable_lines.specs.Facts.{PendingContents, Facts}
+use Rattle.line_moves.specs.stable_lines.Slots.{Undo, line_at}
+use Rattle.line_moves.specs.stable_lines.Progress.{Open, Progress}
+use Rattle.line_moves.specs.stable_lines.Facts.{PendingContents, Facts}
 use Rattle.line_moves.specs.Changes.{IsUndoing}
 use Rattle.line_moves.proofs.LinePut.{same_key}
 use Rattle.line_moves.proofs.Putting.{nat_cases}

@@ -2,7 +2,7 @@
 use Rattle.std.proofs.Common.{◌≡◌, ℕ, ◌+◌, ◌≤◌, ◌<◌, IsTrue, refl, sym, ◌∙◌, ap, arith}
 use Rattle.rdb_types.specs.declared.file.FileId.{FileId}
 use Rattle.rdb_outside.specs.Disk.{View, OnlyReads}
-use Rattle.stable_lines.specs.Slots.{ruj_file, named}
+use Rattle.line_moves.specs.stable_lines.Slots.{ruj_file, named}
 use Rattle.line_moves.specs.Calls.{OnlyWrites}
 use Rattle.line_opening.specs.Headers.{AreClosed}
 use Rattle.line_opening.proofs.Reading.{closed_more}

@@ -4,12 +4,12 @@ use Rattle.slot_fields.proofs.Laws.{word_not_zeros}
 use Rattle.rdb_types.specs.File.{slot_bytes}
 use Rattle.rdb_types.specs.declared.keys.Tsn.{Tsn}
 use Rattle.rdb_outside.specs.Disk.{Image}
-use Rattle.ruj_journal.specs.declared.entry.RujEntry.{RujEntry}
-use Rattle.ruj_journal.specs.Entry.{IsEntry}
-use Rattle.journal_reading.specs.Journal.{EndsBy}
-use Rattle.stable_lines.specs.Slots.{ruj_file, Undo, entry_at}
-use Rattle.stable_lines.specs.Image.{HasEntries}
-use Rattle.stable_lines.proofs.Lists.{got_either, got_one}
+use Rattle.line_moves.specs.ruj_journal.declared.entry.RujEntry.{RujEntry}
+use Rattle.line_moves.specs.ruj_journal.Entry.{IsEntry}
+use Rattle.journal_passing.specs.journal_reading.Journal.{EndsBy}
+use Rattle.line_moves.specs.stable_lines.Slots.{ruj_file, Undo, entry_at}
+use Rattle.line_moves.specs.stable_lines.Image.{HasEntries}
+use Rattle.line_moves.proofs.of_stable_lines.Lists.{got_either, got_one}
 use Rattle.line_opening.specs.Counting.{HasCount}
 
 -- so many entries stand

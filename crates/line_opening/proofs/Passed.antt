@@ -4,17 +4,17 @@ use Rattle.std.specs.List.{flat_map}
 use Rattle.std.proofs.lemmas.Option.{slice_get_within}
 use Rattle.rdb_types.specs.declared.file.FileId.{FileId}
 use Rattle.rdb_outside.specs.Disk.{Image, View, OnlyReads, zeros}
-use Rattle.aij_journal.specs.declared.part.GroupLine.{GroupLine}
-use Rattle.aij_journal.specs.declared.part.AijPart.{AijPart}
-use Rattle.aij_journal.specs.Header.{IsHeader}
-use Rattle.journal_scan.specs.declared.group.Group.{Group}
-use Rattle.journal_scan.specs.Standing.{what_stands}
-use Rattle.journal_scan.specs.Whole.{count_of, slots_of, slots_from, IsWhole, AreWhole}
-use Rattle.journal_reading.specs.Journal.{EndsBy, standing}
-use Rattle.new_database.specs.Maker.{aij_file}
-use Rattle.stable_lines.specs.Journal.{Journal, IsJournalOf, StandsAt, has_group}
-use Rattle.stable_lines.proofs.Groups.{slots_behind, whole_behind, of_either}
-use Rattle.stable_lines.proofs.Unique.{standing_at, one_journal}
+use Rattle.journal_passing.specs.aij_journal.declared.part.GroupLine.{GroupLine}
+use Rattle.journal_passing.specs.aij_journal.declared.part.AijPart.{AijPart}
+use Rattle.journal_passing.specs.aij_journal.Header.{IsHeader}
+use Rattle.journal_passing.specs.journal_scan.declared.group.Group.{Group}
+use Rattle.journal_passing.specs.journal_scan.Standing.{what_stands}
+use Rattle.journal_passing.specs.journal_scan.Whole.{count_of, slots_of, slots_from, IsWhole, AreWhole}
+use Rattle.journal_passing.specs.journal_reading.Journal.{EndsBy, standing}
+use Rattle.line_moves.specs.new_database.Maker.{aij_file}
+use Rattle.line_moves.specs.stable_lines.Journal.{Journal, IsJournalOf, StandsAt, has_group}
+use Rattle.line_moves.proofs.of_stable_lines.Groups.{slots_behind, whole_behind, of_either}
+use Rattle.line_moves.proofs.of_stable_lines.Unique.{standing_at, one_journal}
 use Rattle.line_opening.specs.Headers.{open_in}
 use Rattle.line_opening.specs.Passing.{without, IsNext}
 use Rattle.line_opening.specs.declared.groups.NextGroup.{NextGroup}

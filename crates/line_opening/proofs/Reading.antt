@@ -4,10 +4,10 @@ use Rattle.std.proofs.lemmas.List.{get_or-set_same, get_or-set_other}
 use Rattle.rdb_types.specs.declared.file.FileId.{FileId}
 use Rattle.rdb_types.specs.declared.keys.Tsn.{Tsn}
 use Rattle.rdb_outside.specs.Disk.{Image}
-use Rattle.ruj_journal.specs.Header.{IsHeader, number_of as number_in}
-use Rattle.stable_lines.specs.Slots.{ruj_file, named}
-use Rattle.stable_lines.specs.Kept.{IsRujHeader}
-use Rattle.stable_lines.proofs.Codecs.{named_as}
+use Rattle.line_moves.specs.ruj_journal.Header.{IsHeader, number_of as number_in}
+use Rattle.line_moves.specs.stable_lines.Slots.{ruj_file, named}
+use Rattle.line_moves.specs.stable_lines.Kept.{IsRujHeader}
+use Rattle.line_moves.proofs.of_stable_lines.Codecs.{named_as}
 use Rattle.line_opening.specs.Headers.{AreNamed, AreClosed}
 
 pub header_read : (image : Image) (file : FileId) (member : ℕ) (bytes : List ℕ) (found : Option Tsn) → file ≡ ruj_file member → bytes ≡ image file 0 → IsHeader bytes found → number_in found ≡ named (image (ruj_file member) 0)

@@ -5,10 +5,10 @@ use Rattle.rdb_types.specs.declared.keys.Dbkey.{Dbkey}
 use Rattle.rdb_types.specs.declared.keys.Line.{Line}
 use Rattle.rdb_outside.specs.Disk.{Image, View, Pending, LeavesOnly, IsPending, OnlyReads}
 use Rattle.rdb_outside.specs.Moments.{each_slot, started, weaker}
-use Rattle.stable_lines.specs.Slots.{line_at}
-use Rattle.stable_lines.specs.Progress.{Progress}
-use Rattle.stable_lines.specs.Facts.{IsNotOpen, Facts, StandsAs}
-use Rattle.stable_lines.proofs.Stands.{stands}
+use Rattle.line_moves.specs.stable_lines.Slots.{line_at}
+use Rattle.line_moves.specs.stable_lines.Progress.{Progress}
+use Rattle.line_moves.specs.stable_lines.Facts.{IsNotOpen, Facts, StandsAs}
+use Rattle.line_moves.proofs.of_stable_lines.Stands.{stands}
 use Rattle.line_moves.specs.Calls.{OnlyWrites}
 
 -- before the first call

@@ -1,9 +1,9 @@
 -- What stops an opening, of what stops a call or the reading of the after-image journal.
-use Rattle.new_database.specs.Maker.{aij_file}
-use Rattle.journal_reading.specs.declared.reading.AijFault.{AijFault}
-use Rattle.journal_reading.specs.declared.reading.AijFault.TheVariants as reading
-use Rattle.line_store.specs.declared.answers.Fault.{Fault}
-use Rattle.line_store.specs.declared.answers.Fault.TheVariants as call
+use Rattle.line_moves.specs.new_database.Maker.{aij_file}
+use Rattle.journal_passing.specs.journal_reading.declared.reading.AijFault.{AijFault}
+use Rattle.journal_passing.specs.journal_reading.declared.reading.AijFault.TheVariants as reading
+use Rattle.line_moves.specs.line_store.declared.answers.Fault.{Fault}
+use Rattle.line_moves.specs.line_store.declared.answers.Fault.TheVariants as call
 use Rattle.line_opening.specs.declared.fault.OpeningFault.{OpeningFault}
 use Rattle.line_opening.specs.declared.fault.OpeningFault.TheVariants.{Failed, NoMemory, Bad}
 

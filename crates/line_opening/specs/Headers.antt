@@ -1,9 +1,9 @@
 -- What the members' headers name, and which of it is open.
 use Rattle.std.specs.Prelude.{ℕ, ◌-◌, ◌<◌, ◌≡◌, List, length, slice_index_or, if◌then◌else◌}
 use Rattle.rdb_outside.specs.Disk.{Image}
-use Rattle.journal_scan.specs.declared.group.Group.{Group}
-use Rattle.stable_lines.specs.Slots.{ruj_file, IsMember, named}
-use Rattle.stable_lines.specs.Journal.{has_group}
+use Rattle.journal_passing.specs.journal_scan.declared.group.Group.{Group}
+use Rattle.line_moves.specs.stable_lines.Slots.{ruj_file, IsMember, named}
+use Rattle.line_moves.specs.stable_lines.Journal.{has_group}
 
 -- the number in the place of a member
 abbrev pub number_of : List ℕ → ℕ → ℕ

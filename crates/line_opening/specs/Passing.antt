@@ -1,6 +1,6 @@
 -- The groups of the after-image journal, one after another.
 use Rattle.std.specs.Prelude.{ℕ, ◌≡◌, ◌==◌, if◌then◌else◌}
-use Rattle.stable_lines.specs.Journal.{Journal, next_number, next_slot}
+use Rattle.line_moves.specs.stable_lines.Journal.{Journal, next_number, next_slot}
 use Rattle.line_opening.specs.declared.groups.NextGroup.{NextGroup}
 
 -- the number, and 0 where it is this transaction's

@@ -3,9 +3,9 @@ use Rattle.std.specs.Prelude.{ℕ, ◌≤◌, ◌≡◌, ◌≢◌, ◌⊎◌, l
 use Rattle.rdb_types.specs.declared.keys.Dbkey.{Dbkey}
 use Rattle.rdb_types.specs.declared.keys.Line.{Line}
 use Rattle.rdb_outside.specs.Disk.{Image}
-use Rattle.stable_lines.specs.Slots.{Undo, line_at}
-use Rattle.stable_lines.specs.Progress.{Open, Flight, Progress}
-use Rattle.stable_lines.specs.Facts.{PendingContents, Facts}
+use Rattle.line_moves.specs.stable_lines.Slots.{Undo, line_at}
+use Rattle.line_moves.specs.stable_lines.Progress.{Open, Flight, Progress}
+use Rattle.line_moves.specs.stable_lines.Facts.{PendingContents, Facts}
 
 -- so many of its entries are to be undone, and it isn't in flight
 pub record MayUndo (P : PendingContents) (now : Progress) (member : ℕ) (o : Open) (entries pages : ℕ) : Type 0 where

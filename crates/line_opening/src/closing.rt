@@ -3,16 +3,16 @@ ghost use Rattle.std.specs.Prelude.{◌≡◌, ◌≤◌, ◌<◌, ℕ, None, If
 ghost use Rattle.rdb_types.specs.declared.file.FileId.{FileId as File};
 ghost use Rattle.rdb_outside.specs.Causes.{Rose};
 ghost use Rattle.rdb_outside.specs.Disk.{Pending};
-ghost use Rattle.stable_lines.specs.Slots.{ruj_file as ruj_named, IsMember};
-ghost use Rattle.stable_lines.specs.Kept.{IsRujHeader};
-ghost use Rattle.stable_lines.specs.Progress.{Progress};
-ghost use Rattle.stable_lines.specs.Facts.{Facts};
+ghost use Rattle.line_moves.specs.stable_lines.Slots.{ruj_file as ruj_named, IsMember};
+ghost use Rattle.line_moves.specs.stable_lines.Kept.{IsRujHeader};
+ghost use Rattle.line_moves.specs.stable_lines.Progress.{Progress};
+ghost use Rattle.line_moves.specs.stable_lines.Facts.{Facts};
 ghost use Rattle.line_moves.specs.Calls.{OnlyWrites};
 ghost use Rattle.line_opening.specs.Headers.{AreClosed};
 
 use crate::headers::named_by;
 use line_moves::close_header;
-use line_store::Fault;
+use line_moves::line_store::Fault;
 use rdb_outside::Disk;
 
 /// Closes the first header, of this member or one behind, that names a transaction. The answer is the member to go on with, and 17 where there is none any more. One write at most.

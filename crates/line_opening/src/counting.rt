@@ -2,16 +2,16 @@
 ghost use Rattle.std.specs.Prelude.{◌≡◌, true, false, length, IfOk, IsErr, IsTrue};
 ghost use Rattle.rdb_outside.specs.Causes.{Rose};
 ghost use Rattle.rdb_outside.specs.Disk.{OnlyReads};
-ghost use Rattle.ruj_journal.specs.declared.entry.RujEntry.{RujEntry};
-ghost use Rattle.ruj_journal.specs.Entry.{IsEntry};
-ghost use Rattle.stable_lines.specs.Slots.{Undo, entry_at, ruj_file as ruj_named};
-ghost use Rattle.journal_reading.specs.Journal.{EndsBy};
+ghost use Rattle.line_moves.specs.ruj_journal.declared.entry.RujEntry.{RujEntry};
+ghost use Rattle.line_moves.specs.ruj_journal.Entry.{IsEntry};
+ghost use Rattle.line_moves.specs.stable_lines.Slots.{Undo, entry_at, ruj_file as ruj_named};
+ghost use Rattle.journal_passing.specs.journal_reading.Journal.{EndsBy};
 ghost use Rattle.line_opening.specs.Counting.{HasCount};
 
 use line_moves::ruj_file;
+use line_moves::ruj_journal::read_entry;
 use rdb_outside::{Disk, Failed};
 use rdb_types::Tsn;
-use ruj_journal::read_entry;
 
 // Whether the slot is the entry of a transaction with this index.
 fn is_entry_of(slot: &[u8], tsn: Tsn, index: u32) -> bool

@@ -1,8 +1,8 @@
 ghost use Rattle.std.specs.Prelude.{◌≡◌};
 
-use journal_reading::AijFault;
+use journal_passing::journal_reading::AijFault;
 use line_moves::aij_file;
-use line_store::Fault;
+use line_moves::line_store::Fault;
 use rdb_outside::Failed;
 use rdb_types::FileId;
 

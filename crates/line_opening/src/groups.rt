@@ -3,17 +3,17 @@ ghost use Rattle.std.specs.Prelude.{◌≡◌, ◌≤◌, ◌^◌, ℕ, map, IfO
 ghost use Rattle.rdb_types.specs.declared.file.FileId.{FileId as File};
 ghost use Rattle.rdb_outside.specs.Causes.{Rose};
 ghost use Rattle.rdb_outside.specs.Disk.{OnlyReads};
-ghost use Rattle.aij_journal.specs.Header.{IsHeader};
-ghost use Rattle.journal_reading.specs.Journal.{EndsBy};
-ghost use Rattle.new_database.specs.Maker.{aij_file as aij_named};
-ghost use Rattle.stable_lines.specs.Journal.{Journal, IsJournalOf};
+ghost use Rattle.journal_passing.specs.aij_journal.Header.{IsHeader};
+ghost use Rattle.journal_passing.specs.journal_reading.Journal.{EndsBy};
+ghost use Rattle.line_moves.specs.new_database.Maker.{aij_file as aij_named};
+ghost use Rattle.line_moves.specs.stable_lines.Journal.{Journal, IsJournalOf};
 ghost use Rattle.line_opening.specs.Headers.{open_in};
 ghost use Rattle.line_opening.specs.Passing.{without, IsNext};
 
-use aij_journal::read_header;
+use journal_passing::aij_journal::read_header;
 use journal_passing::pass_group;
 use line_moves::aij_file;
-use line_store::Fault;
+use line_moves::line_store::Fault;
 use rdb_outside::Disk;
 
 /// Where the next group of the after-image journal is written, and its number.

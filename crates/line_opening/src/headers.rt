@@ -3,16 +3,16 @@ ghost use Rattle.std.specs.Prelude.{◌≡◌, ℕ, length, IfOk, IsErrOf, IsTru
 ghost use Rattle.rdb_types.specs.declared.file.FileId.{FileId as File};
 ghost use Rattle.rdb_outside.specs.Causes.{Rose};
 ghost use Rattle.rdb_outside.specs.Disk.{OnlyReads};
-ghost use Rattle.ruj_journal.specs.Header.{number_of as number_in};
-ghost use Rattle.stable_lines.specs.Slots.{ruj_file as ruj_named, named, IsMember};
-ghost use Rattle.stable_lines.specs.Kept.{IsRujHeader};
+ghost use Rattle.line_moves.specs.ruj_journal.Header.{number_of as number_in};
+ghost use Rattle.line_moves.specs.stable_lines.Slots.{ruj_file as ruj_named, named, IsMember};
+ghost use Rattle.line_moves.specs.stable_lines.Kept.{IsRujHeader};
 ghost use Rattle.line_opening.specs.Headers.{AreNamed};
 
+use line_moves::line_store::Fault;
 use line_moves::ruj_file;
-use line_store::Fault;
+use line_moves::ruj_journal::open_tsn;
 use rdb_outside::Disk;
 use rdb_types::Tsn;
-use ruj_journal::open_tsn;
 
 fn number_of(found: Option<Tsn>) -> u64
     ensures { result ≡ number_in found }

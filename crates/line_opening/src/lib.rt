@@ -13,4 +13,6 @@ pub use counting::count_entries;
 pub use fault::OpeningFault;
 pub use groups::{NextGroup, find_open};
 pub use headers::{all_named, named_by};
+pub use line_moves;
+pub use line_moves::line_store;
 pub use undoing::undo_next;

@@ -4,17 +4,17 @@ ghost use Rattle.rdb_types.specs.declared.file.FileId.{FileId as File};
 ghost use Rattle.rdb_types.specs.declared.keys.Dbkey.{Dbkey as Key};
 ghost use Rattle.rdb_outside.specs.Causes.{Rose};
 ghost use Rattle.rdb_outside.specs.Disk.{Pending, LeavesOnly};
-ghost use Rattle.area_files.specs.Areas.{IsDataPage};
-ghost use Rattle.stable_lines.specs.Slots.{area_file as file_named, line_at as line_named, IsAreaFile};
-ghost use Rattle.stable_lines.specs.Progress.{Open, Progress};
-ghost use Rattle.stable_lines.specs.Facts.{IsNotOpen, Facts, StandsAs};
+ghost use Rattle.line_moves.specs.area_files.Areas.{IsDataPage};
+ghost use Rattle.line_moves.specs.stable_lines.Slots.{area_file as file_named, line_at as line_named, IsAreaFile};
+ghost use Rattle.line_moves.specs.stable_lines.Progress.{Open, Progress};
+ghost use Rattle.line_moves.specs.stable_lines.Facts.{IsNotOpen, Facts, StandsAs};
 ghost use Rattle.line_moves.specs.Calls.{OnlyWrites};
 ghost use Rattle.line_moves.specs.declared.places.Place.{Place as Spot};
 ghost use Rattle.line_moves.specs.Classes.{HaveTheirClasses, KeepsOwners};
 ghost use Rattle.line_opening.specs.Undoing.{AreUndone, MayUndo, PutsBack};
 
+use line_moves::line_store::Fault;
 use line_moves::{Undone, undo_line};
-use line_store::Fault;
 use rdb_outside::Disk;
 use rdb_types::Tsn;
 

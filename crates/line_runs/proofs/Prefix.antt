@@ -16,7 +16,7 @@ use Rattle.store_shows.proofs.Standing.{may_stand}
 use Rattle.opened_store.specs.disk_store.Memory.{StoreMemory}
 use Rattle.opened_store.specs.disk_store.Shown.{Shown}
 use Rattle.disk_line_store.specs.Back.{IsBack}
-use Rattle.opened_store.proofs.disk_store.Agreeing.{agreeing, shown-opens}
+use Rattle.opened_store.proofs.of_disk_store.Agreeing.{agreeing, shown-opens}
 use Rattle.line_store.specs.Seats.{outside, in_flight}
 use Rattle.line_store.specs.Shelves.{Shelf}
 use Rattle.line_store.specs.Calls.{MayStand}

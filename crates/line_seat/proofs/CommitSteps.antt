@@ -11,14 +11,14 @@ use Rattle.aij_journal.specs.declared.part.AijPart.{AijPart}
 use Rattle.journal_scan.specs.declared.group.Group.{Group}
 use Rattle.journal_scan.specs.Standing.{what_stands}
 use Rattle.journal_scan.specs.Whole.{slots_of, ascends}
-use Rattle.new_database.specs.Maker.{aij_file}
-use Rattle.line_versions.specs.Lines.{storage_area, shown, shown_as}
-use Rattle.stable_lines.specs.Slots.{ruj_file, area_file, file_of, slot_of, line_on, line_at}
-use Rattle.stable_lines.specs.Journal.{next_slot}
-use Rattle.stable_lines.specs.Progress.{Open, Flight, Progress, flying}
-use Rattle.stable_lines.specs.Facts.{PendingContents, Only, HasLanded, Facts}
-use Rattle.stable_lines.proofs.Barrier.{group_stands}
-use Rattle.stable_lines.proofs.Fewer.{committed, changed}
+use Rattle.line_moves.specs.new_database.Maker.{aij_file}
+use Rattle.line_moves.specs.line_versions.Lines.{storage_area, shown, shown_as}
+use Rattle.line_moves.specs.stable_lines.Slots.{ruj_file, area_file, file_of, slot_of, line_on, line_at}
+use Rattle.line_moves.specs.stable_lines.Journal.{next_slot}
+use Rattle.line_moves.specs.stable_lines.Progress.{Open, Flight, Progress, flying}
+use Rattle.line_moves.specs.stable_lines.Facts.{PendingContents, Only, HasLanded, Facts}
+use Rattle.line_moves.proofs.of_stable_lines.Barrier.{group_stands}
+use Rattle.line_moves.proofs.of_stable_lines.Fewer.{committed, changed}
 use Rattle.line_moves.specs.declared.places.Place.{Place}
 use Rattle.line_moves.specs.Calls.{OnlyWrites}
 use Rattle.line_moves.specs.Changes.{MayPut, IsPlaceOf, IsCommitOf}
@@ -27,7 +27,7 @@ use Rattle.line_moves.proofs.PageWrite.{space_apart}
 use Rattle.line_moves.proofs.Putting.{nat_cases}
 use Rattle.line_seat.specs.declared.commit.GroupPlace.{GroupPlace}
 use Rattle.line_seat.specs.Seats.{IsSecured, secured}
-use Rattle.stable_lines.specs.Slots.{Undo}
+use Rattle.line_moves.specs.stable_lines.Slots.{Undo}
 use Rattle.line_seat.specs.Groups.{group_of, AreEntered, AreOfEntries, AreImaged, HaveClasses, IsCommitting}
 use Rattle.line_seat.proofs.GroupSlots.{as_many, of_lines}
 

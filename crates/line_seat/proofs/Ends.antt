@@ -1,10 +1,10 @@
 -- A transaction whose pages weren't written is undone as it is.
 use Rattle.std.proofs.Common.{◌≡◌, ℕ, ◌≤◌, ◌<◌, List, [], Some, slice_get, ap, sym, ◌∙◌, arith}
 use Rattle.rdb_outside.specs.Disk.{View, Pending}
-use Rattle.stable_lines.specs.Slots.{Undo}
-use Rattle.stable_lines.specs.Progress.{Open, Progress, without}
-use Rattle.stable_lines.specs.Facts.{Facts}
-use Rattle.stable_lines.proofs.Ending.{undone, no_line_bears}
+use Rattle.line_moves.specs.stable_lines.Slots.{Undo}
+use Rattle.line_moves.specs.stable_lines.Progress.{Open, Progress, without}
+use Rattle.line_moves.specs.stable_lines.Facts.{Facts}
+use Rattle.line_moves.proofs.of_stable_lines.Ending.{undone, no_line_bears}
 use Rattle.line_seat.specs.Seats.{SeatFacts}
 
 no_such : (o : Open) → o.entries ≡ [] → (i : ℕ) (undo : Undo) → slice_get o.entries i ≡ Some undo → ⊥

@@ -5,13 +5,13 @@ use Rattle.rdb_types.specs.declared.keys.Dbkey.{Dbkey}
 use Rattle.rdb_types.specs.declared.keys.Line.{Line}
 use Rattle.rdb_outside.specs.Disk.{View, LeftNow, Pending}
 use Rattle.ruj_journal.specs.Entry.{IsEntry}
-use Rattle.stable_lines.specs.Slots.{ruj_file, file_of, slot_of, named, line_on, Undo, entry_at}
-use Rattle.stable_lines.specs.Image.{IsNoneOf}
-use Rattle.stable_lines.specs.Progress.{Open, Progress}
-use Rattle.stable_lines.specs.Facts.{More, IsCommitted, Facts}
-use Rattle.stable_lines.proofs.Fewer.{committed}
-use Rattle.stable_lines.proofs.Lists.{got_either, got_one}
-use Rattle.stable_lines.proofs.Written.{one_written}
+use Rattle.line_moves.specs.stable_lines.Slots.{ruj_file, file_of, slot_of, named, line_on, Undo, entry_at}
+use Rattle.line_moves.specs.stable_lines.Image.{IsNoneOf}
+use Rattle.line_moves.specs.stable_lines.Progress.{Open, Progress}
+use Rattle.line_moves.specs.stable_lines.Facts.{More, IsCommitted, Facts}
+use Rattle.line_moves.proofs.of_stable_lines.Fewer.{committed}
+use Rattle.line_moves.proofs.of_stable_lines.Lists.{got_either, got_one}
+use Rattle.line_moves.proofs.of_stable_lines.Written.{one_written}
 use Rattle.line_moves.proofs.Runs.{pends}
 use Rattle.line_seat.specs.Seats.{BeforeFacts, SeatFacts, MayChange}
 

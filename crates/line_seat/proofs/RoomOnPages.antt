@@ -13,9 +13,9 @@ use Rattle.rdb_page.specs.Lines.{Agrees, IsAllowedLine}
 use Rattle.rdb_page.specs.Page.{IsHead, IsOwner, IsUnused, class_at, lines_of}
 use Rattle.rdb_page.specs.Whole.{IsPageOf, IsUsedPage}
 use Rattle.aij_journal.specs.Part.{LeavesLine}
-use Rattle.stable_lines.specs.Slots.{area_file, owner_at, IsAreaFile}
-use Rattle.stable_lines.specs.Progress.{Open, Progress}
-use Rattle.stable_lines.specs.Facts.{Facts}
+use Rattle.line_moves.specs.stable_lines.Slots.{area_file, owner_at, IsAreaFile}
+use Rattle.line_moves.specs.stable_lines.Progress.{Open, Progress}
+use Rattle.line_moves.specs.stable_lines.Facts.{Facts}
 use Rattle.line_moves.specs.declared.places.Place.{Place}
 use Rattle.line_moves.specs.Changes.{Fits, IsEntered, IsPlaceOf}
 use Rattle.line_moves.specs.Lines.{AllFit, AllFitBegun, ChangedLines, IsStarted}

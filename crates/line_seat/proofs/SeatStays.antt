@@ -4,11 +4,11 @@ use Rattle.rdb_types.specs.declared.file.FileId.{FileId}
 use Rattle.rdb_types.specs.declared.file.FileKind.TheVariants.{Ruj}
 use Rattle.rdb_outside.specs.Disk.{View, Pending, Keeps, OnlyReads}
 use Rattle.ruj_journal.specs.Entry.{IsEntry}
-use Rattle.stable_lines.specs.Slots.{ruj_file, named, IsMember, Undo, entry_at}
-use Rattle.stable_lines.specs.Progress.{Open, Progress, begun}
-use Rattle.stable_lines.specs.Facts.{HasEnded, Facts}
-use Rattle.stable_lines.proofs.Turns.{going_here}
-use Rattle.stable_lines.proofs.Written.{none_written}
+use Rattle.line_moves.specs.stable_lines.Slots.{ruj_file, named, IsMember, Undo, entry_at}
+use Rattle.line_moves.specs.stable_lines.Progress.{Open, Progress, begun}
+use Rattle.line_moves.specs.stable_lines.Facts.{HasEnded, Facts}
+use Rattle.line_moves.proofs.of_stable_lines.Turns.{going_here}
+use Rattle.line_moves.proofs.of_stable_lines.Written.{none_written}
 use Rattle.line_moves.specs.Calls.{OnlyWrites}
 use Rattle.line_moves.proofs.Putting.{nat_cases}
 use Rattle.line_seat.specs.Seats.{SeatFacts}

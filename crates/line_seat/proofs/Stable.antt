@@ -6,14 +6,14 @@ use Rattle.rdb_types.specs.declared.keys.Line.{Line}
 use Rattle.rdb_types.specs.declared.keys.Tsn.{Tsn}
 use Rattle.rdb_outside.specs.Disk.{View, Pending, Keeps}
 use Rattle.ruj_journal.specs.Entry.{IsEntry}
-use Rattle.stable_lines.specs.Slots.{ruj_file, named, Undo, entry_at}
-use Rattle.stable_lines.specs.Progress.{Open, Flight, Progress, set_going, saved}
-use Rattle.stable_lines.specs.Facts.{PendingContents, IsNotOpen, IsChanged, Facts}
-use Rattle.stable_lines.proofs.Fewer.{committed}
-use Rattle.stable_lines.proofs.Lists.{got_right}
-use Rattle.stable_lines.proofs.Turns.{some_same, going_is, going_here}
-use Rattle.stable_lines.proofs.Saving.{saves}
-use Rattle.stable_lines.proofs.Written.{written_stay, one_slot}
+use Rattle.line_moves.specs.stable_lines.Slots.{ruj_file, named, Undo, entry_at}
+use Rattle.line_moves.specs.stable_lines.Progress.{Open, Flight, Progress, set_going, saved}
+use Rattle.line_moves.specs.stable_lines.Facts.{PendingContents, IsNotOpen, IsChanged, Facts}
+use Rattle.line_moves.proofs.of_stable_lines.Fewer.{committed}
+use Rattle.line_moves.proofs.of_stable_lines.Lists.{got_right}
+use Rattle.line_moves.proofs.of_stable_lines.Turns.{some_same, going_is, going_here}
+use Rattle.line_moves.proofs.of_stable_lines.Saving.{saves}
+use Rattle.line_moves.proofs.of_stable_lines.Written.{written_stay, one_slot}
 use Rattle.line_seat.specs.Seats.{SeatFacts, secured, IsSecured}
 
 -- ---- where fewer contents may be left, a seat holds what it held

@@ -7,11 +7,11 @@ use Rattle.rdb_types.specs.declared.keys.Line.{Line}
 use Rattle.rdb_types.specs.declared.keys.Tsn.{Tsn}
 use Rattle.rdb_outside.specs.Disk.{View, Pending, Keeps, OnlyReads}
 use Rattle.journal_scan.specs.Standing.{what_stands}
-use Rattle.new_database.specs.Maker.{aij_file}
-use Rattle.line_versions.specs.Lines.{storage_area}
-use Rattle.stable_lines.specs.Slots.{ruj_file, area_file, slot_of, named, line_on}
-use Rattle.stable_lines.specs.Progress.{Open, Flight, Progress}
-use Rattle.stable_lines.specs.Facts.{HasEnded, IsNotOpen, IsCommitted, IsChanged, Facts}
+use Rattle.line_moves.specs.new_database.Maker.{aij_file}
+use Rattle.line_moves.specs.line_versions.Lines.{storage_area}
+use Rattle.line_moves.specs.stable_lines.Slots.{ruj_file, area_file, slot_of, named, line_on}
+use Rattle.line_moves.specs.stable_lines.Progress.{Open, Flight, Progress}
+use Rattle.line_moves.specs.stable_lines.Facts.{HasEnded, IsNotOpen, IsCommitted, IsChanged, Facts}
 use Rattle.line_moves.specs.Calls.{OnlyWrites}
 use Rattle.line_moves.specs.Lines.{ChangedLines, MayPutAll}
 use Rattle.line_moves.proofs.Putting.{nat_cases}

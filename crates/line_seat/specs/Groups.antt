@@ -10,13 +10,13 @@ use Rattle.aij_journal.specs.Part.{IsAllowedLine}
 use Rattle.journal_scan.specs.declared.group.Group.{Group}
 use Rattle.journal_scan.specs.Standing.{what_stands}
 use Rattle.journal_scan.specs.Whole.{slots_of, ascends}
-use Rattle.new_database.specs.Maker.{aij_file}
+use Rattle.line_moves.specs.new_database.Maker.{aij_file}
 use Rattle.line_view.specs.Knowledge.{line_in}
-use Rattle.stable_lines.specs.Slots.{Undo, file_of, slot_of}
-use Rattle.stable_lines.specs.Journal.{next_number, next_slot}
-use Rattle.stable_lines.specs.Kept.{FitsClass}
-use Rattle.stable_lines.specs.Progress.{Open, Flight, Progress, lines_with}
-use Rattle.stable_lines.specs.Facts.{PendingContents, IsInGroup}
+use Rattle.line_moves.specs.stable_lines.Slots.{Undo, file_of, slot_of}
+use Rattle.line_moves.specs.stable_lines.Journal.{next_number, next_slot}
+use Rattle.line_moves.specs.stable_lines.Kept.{FitsClass}
+use Rattle.line_moves.specs.stable_lines.Progress.{Open, Flight, Progress, lines_with}
+use Rattle.line_moves.specs.stable_lines.Facts.{PendingContents, IsInGroup}
 use Rattle.line_moves.specs.declared.places.Place.{Place}
 use Rattle.line_moves.specs.Changes.{IsPlaceOf, IsEntered}
 use Rattle.line_moves.specs.Classes.{HaveTheirClasses}

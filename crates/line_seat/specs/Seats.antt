@@ -4,11 +4,11 @@ use Rattle.rdb_types.specs.declared.keys.Dbkey.{Dbkey}
 use Rattle.rdb_types.specs.declared.keys.Line.{Line}
 use Rattle.rdb_outside.specs.Disk.{View, Pending}
 use Rattle.ruj_journal.specs.Entry.{IsEntry}
-use Rattle.stable_lines.specs.Slots.{ruj_file, named, Undo, entry_at}
-use Rattle.stable_lines.specs.Image.{IsNoneOf}
-use Rattle.stable_lines.specs.Progress.{Open, Flight, Progress, set_going}
-use Rattle.stable_lines.specs.Facts.{PendingContents, IsCommitted, Facts}
-use Rattle.stable_lines.specs.Written.{AreWritten}
+use Rattle.line_moves.specs.stable_lines.Slots.{ruj_file, named, Undo, entry_at}
+use Rattle.line_moves.specs.stable_lines.Image.{IsNoneOf}
+use Rattle.line_moves.specs.stable_lines.Progress.{Open, Flight, Progress, set_going}
+use Rattle.line_moves.specs.stable_lines.Facts.{PendingContents, IsCommitted, Facts}
+use Rattle.line_moves.specs.stable_lines.Written.{AreWritten}
 use Rattle.line_moves.specs.Contents.{IsFree}
 use Rattle.line_moves.specs.Changes.{MayPut}
 

@@ -1,11 +1,11 @@
 -- What a commit rests on at each of its stages.
 use Rattle.std.specs.Prelude.{ℕ, ◌+◌, ◌<◌, ◌≡◌, length}
 use Rattle.rdb_outside.specs.Disk.{View, Pending}
-use Rattle.new_database.specs.Maker.{aij_file}
+use Rattle.line_moves.specs.new_database.Maker.{aij_file}
 use Rattle.journal_scan.specs.Standing.{what_stands}
-use Rattle.stable_lines.specs.Journal.{commit_of}
-use Rattle.stable_lines.specs.Progress.{Flight, Progress, flying, landed}
-use Rattle.stable_lines.specs.Facts.{Facts}
+use Rattle.line_moves.specs.stable_lines.Journal.{commit_of}
+use Rattle.line_moves.specs.stable_lines.Progress.{Flight, Progress, flying, landed}
+use Rattle.line_moves.specs.stable_lines.Facts.{Facts}
 use Rattle.line_moves.specs.Lines.{ChangedLines, MayPutAll, ArePut}
 use Rattle.line_seat.specs.declared.commit.GroupPlace.{GroupPlace}
 use Rattle.line_seat.specs.declared.commit.CommitStage.{CommitStage}

@@ -5,10 +5,10 @@ ghost use Rattle.rdb_types.specs.declared.file.FileKind.TheVariants.{Aij};
 ghost use Rattle.rdb_outside.specs.Causes.{Rose};
 ghost use Rattle.rdb_outside.specs.Disk.{Pending};
 ghost use Rattle.area_files.specs.Areas.{IsDataPage};
-ghost use Rattle.new_database.specs.Maker.{aij_file as aij_named};
-ghost use Rattle.stable_lines.specs.Slots.{area_file as file_named, IsAreaFile};
-ghost use Rattle.stable_lines.specs.Progress.{Open, Flight, Progress};
-ghost use Rattle.stable_lines.specs.Facts.{Facts};
+ghost use Rattle.line_moves.specs.new_database.Maker.{aij_file as aij_named};
+ghost use Rattle.line_moves.specs.stable_lines.Slots.{area_file as file_named, IsAreaFile};
+ghost use Rattle.line_moves.specs.stable_lines.Progress.{Open, Flight, Progress};
+ghost use Rattle.line_moves.specs.stable_lines.Facts.{Facts};
 ghost use Rattle.line_moves.specs.Calls.{OnlyWrites};
 ghost use Rattle.line_moves.specs.declared.places.Place.{Place as Spot};
 ghost use Rattle.line_moves.specs.Classes.{HaveTheirClasses, KeepsOwners, LieForArea};
@@ -18,8 +18,8 @@ ghost use Rattle.line_seat.specs.Stages.{CommitFacts, IsFurther, IsNextStage, pr
 ghost use Rattle.line_seat.specs.declared.commit.CommitStage.TheVariants.{Changing, Imaging, Gathering};
 
 use aij_journal::{AijPart, GroupLine};
+use line_moves::line_store::Fault;
 use line_moves::{make_stable, place_of, write_after_image, write_commit, write_page};
-use line_store::Fault;
 use rdb_outside::{Disk, Failed};
 use rdb_types::{Dbkey, Image, Line, Tsn};
 

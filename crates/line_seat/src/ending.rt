@@ -1,9 +1,9 @@
 // A rollback.
 ghost use Rattle.std.specs.Prelude.{ℕ, List, IsTrue};
 ghost use Rattle.rdb_outside.specs.Disk.{Counts, Pending};
-ghost use Rattle.stable_lines.specs.Slots.{ruj_file, Undo};
-ghost use Rattle.stable_lines.specs.Progress.{Open, Progress, without};
-ghost use Rattle.stable_lines.specs.Facts.{Facts};
+ghost use Rattle.line_moves.specs.stable_lines.Slots.{ruj_file, Undo};
+ghost use Rattle.line_moves.specs.stable_lines.Progress.{Open, Progress, without};
+ghost use Rattle.line_moves.specs.stable_lines.Facts.{Facts};
 ghost use Rattle.line_moves.specs.Calls.{OnlyWrites};
 ghost use Rattle.line_seat.specs.Seats.{SeatFacts};
 

@@ -4,15 +4,15 @@ ghost use Rattle.rdb_types.specs.declared.file.FileId.{FileId as File};
 ghost use Rattle.rdb_page.specs.Whole.{IsPageOf};
 ghost use Rattle.rdb_outside.specs.Causes.{Rose};
 ghost use Rattle.rdb_outside.specs.Disk.{Pending};
-ghost use Rattle.stable_lines.specs.Slots.{area_file, ruj_file, line_at, Undo};
-ghost use Rattle.stable_lines.specs.Progress.{Open, Progress};
-ghost use Rattle.stable_lines.specs.Facts.{Facts};
+ghost use Rattle.line_moves.specs.stable_lines.Slots.{area_file, ruj_file, line_at, Undo};
+ghost use Rattle.line_moves.specs.stable_lines.Progress.{Open, Progress};
+ghost use Rattle.line_moves.specs.stable_lines.Facts.{Facts};
 ghost use Rattle.line_moves.specs.Calls.{OnlyWrites};
 ghost use Rattle.line_moves.specs.Changes.{IsPlaceOf};
 ghost use Rattle.line_seat.specs.Seats.{MayChange, SeatFacts};
 
+use line_moves::line_store::Fault;
 use line_moves::{Place, write_before_image};
-use line_store::Fault;
 use rdb_outside::Disk;
 use rdb_types::{Dbkey, Tsn};
 

@@ -2,9 +2,9 @@
 ghost use Rattle.std.specs.Prelude.{◌≡◌, ℕ, List, length, OnOk, IsErr, IsTrue};
 ghost use Rattle.rdb_outside.specs.Causes.{Rose};
 ghost use Rattle.rdb_outside.specs.Disk.{Pending, OnlyReads};
-ghost use Rattle.stable_lines.specs.Slots.{Undo};
-ghost use Rattle.stable_lines.specs.Progress.{Open, Progress};
-ghost use Rattle.stable_lines.specs.Facts.{Facts};
+ghost use Rattle.line_moves.specs.stable_lines.Slots.{Undo};
+ghost use Rattle.line_moves.specs.stable_lines.Progress.{Open, Progress};
+ghost use Rattle.line_moves.specs.stable_lines.Facts.{Facts};
 ghost use Rattle.line_seat.specs.Seats.{IsSecured, SeatFacts};
 
 use line_moves::make_stable;

@@ -10,7 +10,7 @@ use Rattle.rdb_account.specs.Places.{Opening, Place, Transaction, nothing, livin
 use Rattle.rdb_account.specs.Lawful.{got_of}
 use Rattle.rdb_account.specs.Legal.{is_ready}
 use Rattle.lock_tree_laws.specs.Forest.{no_conflict}
-use Rattle.session_jobs.specs.Records.{Model}
+use Rattle.line_history.specs.session_jobs.Records.{Model}
 use Rattle.line_steps.specs.Members.{Member, left_of, life_of}
 use Rattle.lock_ties.specs.Ties.{Apart, needs_at}
 use Rattle.line_steps.specs.Right.{Desk, Ground, StandsAs, Stands, IsFit, with_desk}

@@ -8,9 +8,9 @@ use Rattle.rdb_account.specs.Places.{Opening, Place, Transaction, Commit, place,
 use Rattle.rdb_account.specs.Lawful.{got_of}
 use Rattle.lock_ties.specs.Ties.{needs_at}
 use Rattle.lock_ties.proofs.Places.{number}
-use Rattle.kept_apart.specs.Guards.{may_write}
-use Rattle.kept_apart.proofs.Apart.{guarded-apart, write-guards}
-use Rattle.session_jobs.specs.Records.{Model, IsOrderly}
+use Rattle.line_history.specs.kept_apart.Guards.{may_write}
+use Rattle.line_history.proofs.of_kept_apart.Apart.{guarded-apart, write-guards}
+use Rattle.line_history.specs.session_jobs.Records.{Model, IsOrderly}
 use Rattle.line_history.proofs.Transactions.{commit-stands}
 use Rattle.line_store.specs.Shelves.{Shelf}
 use Rattle.line_store.specs.Calls.{MayStand, Lasts}

@@ -8,9 +8,9 @@ use Rattle.rdb_account.specs.Events.{Said, Committed, RolledBack}
 use Rattle.rdb_account.specs.Places.{Opening, Place, Transaction, nothing, commit_reply, rollback_reply, living, over, at, after, next_item, is_writer, retold, asks_of_others}
 use Rattle.rdb_account.specs.Lawful.{got_of}
 use Rattle.rdb_account.specs.Legal.{May, MayRollBack, has_none}
-use Rattle.kept_apart.specs.Guards.{AreOwn}
-use Rattle.kept_apart.proofs.Alike.{alike-refl, alike-others, laid-all-in-order}
-use Rattle.session_jobs.specs.Records.{Model, IsOrderly}
+use Rattle.line_history.specs.kept_apart.Guards.{AreOwn}
+use Rattle.line_history.proofs.of_kept_apart.Alike.{alike-refl, alike-others, laid-all-in-order}
+use Rattle.line_history.specs.session_jobs.Records.{Model, IsOrderly}
 use Rattle.line_history.proofs.Transactions.{stands-told, commit-stands}
 use Rattle.line_steps.specs.Members.{outside, writing, ended, Member, member, left_of}
 use Rattle.lock_ties.specs.Ties.{needs_at}

@@ -10,9 +10,9 @@ use Rattle.rdb_account.specs.Places.{Opening, Place, Line, Due, nothing, commit_
 use Rattle.rdb_account.specs.Lawful.{got_of}
 use Rattle.rdb_account.specs.Legal.{is_free, MayFollow}
 use Rattle.rdb_account.proofs.Growth.{legal-grown, place-grown, follow-grown}
-use Rattle.kept_apart.specs.Alike.{AreAlike}
-use Rattle.kept_apart.proofs.Alike.{alike-refl, alike-trans, alike-laid-all, alike-agrees}
-use Rattle.session_jobs.specs.Records.{Model, IsOrderly}
+use Rattle.line_history.specs.kept_apart.Alike.{AreAlike}
+use Rattle.line_history.proofs.of_kept_apart.Alike.{alike-refl, alike-trans, alike-laid-all, alike-agrees}
+use Rattle.line_history.specs.session_jobs.Records.{Model, IsOrderly}
 use Rattle.line_history.specs.Transactions.{IsWriting, IsReading}
 use Rattle.line_history.proofs.Transactions.{holds-beside}
 use Rattle.line_steps.specs.Members.{State, outside, writing, reading, ended, fallen, recovered, Member, member}

@@ -1,3 +1,5 @@
+pub use Rattle.line_history.proofs as of_line_history
+pub use Rattle.lock_ties.proofs as of_lock_ties
 pub mod Frame
 pub mod Common
 pub mod Kept

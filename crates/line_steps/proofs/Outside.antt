@@ -5,8 +5,8 @@ use Rattle.rdo_ast.specs.Tree.{Uttered}
 use Rattle.rdb_account.specs.Events.{Said}
 use Rattle.rdb_account.specs.Places.{Opening, Place, Line, after, begins, is_done}
 use Rattle.rdb_account.specs.Legal.{MaySay, ends_by, may_be_outside, IsReply}
-use Rattle.kept_apart.proofs.Alike.{alike-refl}
-use Rattle.session_jobs.specs.Records.{Model, IsOrderly}
+use Rattle.line_history.proofs.of_kept_apart.Alike.{alike-refl}
+use Rattle.line_history.specs.session_jobs.Records.{Model, IsOrderly}
 use Rattle.line_steps.specs.Members.{outside, member}
 use Rattle.lock_ties.specs.Ties.{needs_at}
 use Rattle.line_steps.specs.Right.{Ground}

@@ -8,8 +8,8 @@ use Rattle.line_view.specs.Knowledge.{Knowledge, Agrees}
 use Rattle.rdb_account.specs.Events.{Began, Said, Committed}
 use Rattle.rdb_account.specs.Places.{Opening, Place, Transaction, commit_reply, at, after, begins, begun, is_writer, asks_of_others}
 use Rattle.rdb_account.specs.Legal.{May}
-use Rattle.kept_apart.proofs.Alike.{alike-refl}
-use Rattle.session_jobs.specs.Records.{Model, IsOrderly}
+use Rattle.line_history.proofs.of_kept_apart.Alike.{alike-refl}
+use Rattle.line_history.specs.session_jobs.Records.{Model, IsOrderly}
 use Rattle.line_history.specs.Transactions.{IsReading}
 use Rattle.line_steps.specs.Members.{outside, reading, member}
 use Rattle.lock_ties.specs.Ties.{needs_at}

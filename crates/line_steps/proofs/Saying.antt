@@ -16,10 +16,10 @@ use Rattle.rdb_account.specs.Events.{Said}
 use Rattle.rdb_account.specs.Places.{Opening, Place, Transaction, Line, nothing, living, at, after, begins, leaves_none, with_line, is_writer, is_done, is_first_refused, asks_of_others, retold, some_reply}
 use Rattle.rdb_account.specs.Lawful.{got_of, has_cause, IsExcused}
 use Rattle.rdb_account.specs.Legal.{MaySay, ends_by, IsAnsweredIn, standing_of_reader}
-use Rattle.kept_apart.specs.Guards.{AreOwn}
-use Rattle.kept_apart.specs.Alike.{IsGuarded}
-use Rattle.kept_apart.proofs.Alike.{alike-refl}
-use Rattle.session_jobs.specs.Records.{Model, IsOrderly, Worked, DoesSo, IsRight}
+use Rattle.line_history.specs.kept_apart.Guards.{AreOwn}
+use Rattle.line_history.specs.kept_apart.Alike.{IsGuarded}
+use Rattle.line_history.proofs.of_kept_apart.Alike.{alike-refl}
+use Rattle.line_history.specs.session_jobs.Records.{Model, IsOrderly, Worked, DoesSo, IsRight}
 use Rattle.line_history.specs.Transactions.{line_of, Leads, IsWriting}
 use Rattle.line_history.proofs.Transactions.{holds-now, holds-said, holds-relaid, holds-excused, stands-told, stands-answered, stands-excused, reader-answered, reader-excused}
 use Rattle.line_history.proofs.Standings.{stays-writer, starts-writer, starts-leaves, excused-undone}

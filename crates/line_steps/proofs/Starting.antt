@@ -8,8 +8,8 @@ use Rattle.line_view.specs.Writes.{laid_all}
 use Rattle.rdb_account.specs.Events.{Said, RolledBack}
 use Rattle.rdb_account.specs.Places.{Opening, Place, Transaction, Line, nothing, rolls_back, living, at, after, with_line, is_writer, is_done, is_first_refused, asks_of_others}
 use Rattle.rdb_account.specs.Legal.{May, MaySay, ends_by, IsAnsweredIn}
-use Rattle.kept_apart.proofs.Alike.{alike-refl}
-use Rattle.session_jobs.specs.Records.{Model, IsOrderly, Worked, IsRight}
+use Rattle.line_history.proofs.of_kept_apart.Alike.{alike-refl}
+use Rattle.line_history.specs.session_jobs.Records.{Model, IsOrderly, Worked, IsRight}
 use Rattle.line_history.specs.Transactions.{line_of}
 use Rattle.line_history.proofs.Transactions.{stands-told, stands-answered, stands-excused}
 use Rattle.line_steps.specs.Members.{outside, writing, Member, member, left_of}

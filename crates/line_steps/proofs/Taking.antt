@@ -12,9 +12,9 @@ use Rattle.rdb_account.specs.Events.{Began, Demoted}
 use Rattle.rdb_account.specs.Places.{Opening, Place, Transaction, at, begins, begun, is_writer}
 use Rattle.rdb_account.specs.Lawful.{got_of}
 use Rattle.rdb_account.specs.Legal.{is_ready, has_writer}
-use Rattle.kept_apart.specs.Alike.{IsGuarded}
-use Rattle.kept_apart.proofs.Alike.{alike-refl}
-use Rattle.session_jobs.specs.Records.{Model, IsOrderly}
+use Rattle.line_history.specs.kept_apart.Alike.{IsGuarded}
+use Rattle.line_history.proofs.of_kept_apart.Alike.{alike-refl}
+use Rattle.line_history.specs.session_jobs.Records.{Model, IsOrderly}
 use Rattle.line_history.specs.Transactions.{IsWriting}
 use Rattle.line_history.proofs.Transactions.{holds-fresh, writing-learns}
 use Rattle.line_steps.specs.Members.{outside, writing, Member, member}

@@ -18,11 +18,11 @@ use Rattle.lock_ties.proofs.Asks.{ask, want-more, want-again}
 use Rattle.lock_ties.proofs.Single.{may-want}
 use Rattle.lock_ties.proofs.Parted.{may-get}
 use Rattle.lock_ties.proofs.Got.{wants-needs}
-use Rattle.kept_apart.specs.Guards.{AreOwn, line_node}
-use Rattle.kept_apart.proofs.Alike.{alike-refl, guarded-more}
-use Rattle.kept_apart.proofs.Apart.{guarded-grown, may-write-grown}
-use Rattle.session_jobs.specs.Records.{Model, IsOrderly}
-use Rattle.session_jobs.specs.Asked.{locks}
+use Rattle.line_history.specs.kept_apart.Guards.{AreOwn, line_node}
+use Rattle.line_history.proofs.of_kept_apart.Alike.{alike-refl, guarded-more}
+use Rattle.line_history.proofs.of_kept_apart.Apart.{guarded-grown, may-write-grown}
+use Rattle.line_history.specs.session_jobs.Records.{Model, IsOrderly}
+use Rattle.line_history.specs.session_jobs.Asked.{locks}
 use Rattle.line_history.specs.Transactions.{IsAskedOver}
 use Rattle.line_history.proofs.Transactions.{holds-now, writing-learns, stands-asked}
 use Rattle.line_history.proofs.Standings.{writer-locks, start-locks}

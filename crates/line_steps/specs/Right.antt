@@ -9,7 +9,7 @@ use Rattle.rdb_account.specs.Places.{Opening, Place, Transaction, at, is_writer,
 use Rattle.rdb_account.specs.Legal.{IsLegal, standing_of_reader}
 use Rattle.lock_tree_laws.specs.Forest.{no_conflict}
 use Rattle.lock_ties.specs.Ties.{needs_at}
-use Rattle.session_jobs.specs.Records.{Model}
+use Rattle.line_history.specs.session_jobs.Records.{Model}
 use Rattle.line_history.specs.Transactions.{IsWriting, IsReading}
 use Rattle.line_steps.specs.Members.{State, outside, writing, reading, ended, fallen, recovered, Member, left_of, life_of}
 

@@ -3,8 +3,8 @@ use Rattle.std.specs.Prelude.{◌≡◌, ℕ, false, ◌==◌, List, [], ◌∷�
 use Rattle.rdb_account.specs.Events.{Event, Began, Wanted, Got, Demoted, Said, Committed, RolledBack, Died, Recovered}
 use Rattle.rdb_account.specs.Places.{Opening, Place, nothing, place_from}
 use Rattle.rdb_account.specs.Legal.{MayFollow}
-use Rattle.kept_apart.specs.Alike.{AreAlike}
-use Rattle.session_jobs.specs.Records.{Model}
+use Rattle.line_history.specs.kept_apart.Alike.{AreAlike}
+use Rattle.line_history.specs.session_jobs.Records.{Model}
 use Rattle.line_steps.specs.Members.{Member}
 use Rattle.lock_ties.specs.Ties.{AskForOne, needs_at}
 use Rattle.line_steps.specs.Right.{Ground, Stands, IsFit}

@@ -3,15 +3,15 @@ ghost use Rattle.std.specs.Prelude.{◌≡◌, ◌≤◌, ◌++◌, ◌⊎◌, �
 ghost use Rattle.line_view.specs.Knowledge.{Lines};
 ghost use Rattle.rdb_account.specs.Events.{Event};
 ghost use Rattle.rdb_account.specs.Places.{Commit, Opening, Place, place};
-ghost use Rattle.kept_apart.specs.Guards.{may_write};
+ghost use Rattle.line_history.specs.kept_apart.Guards.{may_write};
 ghost use Rattle.line_store.specs.Shelves.{Shelf};
 ghost use Rattle.line_store.specs.Calls.{Lasts, MayStand};
 ghost use Rattle.lock_ties.specs.Ties.{needs_at};
 ghost use Rattle.line_steps.specs.Images.{AreLeft, IsNow, IsStored, journal_node};
 ghost use Rattle.line_steps.specs.Right.{Ground, IsFit};
 
+use line_history::session_jobs::Statements;
 use line_store::LineStore;
-use session_jobs::Statements;
 
 /// Each map of lines that a crash since a commit may leave stands for the tables of that commit, of a later one, or of the one in
 /// flight, and a store can be opened from each image. It stays so behind events that commit nothing, and behind a call of a store with the events behind it, from a shelf that

@@ -1,8 +1,8 @@
 // The steps of a session in a read-write transaction, from its beginning to its end.
 ghost use Rattle.std.specs.Prelude.{◌≡◌, ◌≤◌, ◌==◌, ◌&&◌, ◌++◌, ◌∷◌, ℕ, true, false, List, [], Option, Some, None};
 ghost use Rattle.std.specs.List.{AllByRecursion};
-ghost use Rattle.kept_apart.specs.Alike.{IsGuarded};
-ghost use Rattle.kept_apart.specs.Guards.{AreOwn};
+ghost use Rattle.line_history.specs.kept_apart.Alike.{IsGuarded};
+ghost use Rattle.line_history.specs.kept_apart.Guards.{AreOwn};
 ghost use Rattle.line_history.specs.Transactions.{IsAskedOver};
 ghost use Rattle.line_steps.specs.Members.{Member, ended, left_of, member, outside, writing};
 ghost use Rattle.line_steps.specs.Right.{Desk, Ground, Stands, Writes, at_end, with_desk};
@@ -24,11 +24,11 @@ ghost use Rattle.rdo_ast.specs.Tree.{Uttered, commit, rollback, said};
 ghost use Rattle.rdo_ast.specs.declared.reply.Reply.TheVariants.{Done};
 ghost use Rattle.rdo_ast.specs.declared.reply.Standing.{Standing};
 ghost use Rattle.rdo_ast.specs.declared.reply.Standing.TheVariants.{Closed};
-ghost use Rattle.session_jobs.specs.Asked.{locks};
-ghost use Rattle.session_jobs.specs.Records.{IsRight, Worked};
+ghost use Rattle.line_history.specs.session_jobs.Asked.{locks};
+ghost use Rattle.line_history.specs.session_jobs.Records.{IsRight, Worked};
 ghost use Rattle.vms_queues.specs.declared.lock_mode.Mode.{Mode};
 
-use session_jobs::Statements;
+use line_history::session_jobs::Statements;
 
 /// A read-write transaction begins, takes up its next statement, and learns what agrees with the committed lines under its writes where
 /// its needs guard. A notice brings down a lock of a read-write transaction and changes nothing that an account keeps.

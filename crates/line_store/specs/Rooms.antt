@@ -1,9 +1,9 @@
 -- Rooms: lines on which a new one may be put.
 use Rattle.std.specs.Prelude.{◌≡◌, ◌≢◌, ◌≤◌, ◌⊎◌, ℕ, true, false, Option, Some, None}
 use Rattle.std.specs.declared.cmp.Ordering.TheVariants.{Less}
-use Rattle.rdb_types.specs.declared.keys.Dbkey.{Dbkey}
-use Rattle.rdb_types.specs.Order.{dbkey_order}
-use Rattle.rdb_page.specs.Page.{IsOwner}
+use Rattle.rdb_outside.specs.rdb_types.declared.keys.Dbkey.{Dbkey}
+use Rattle.rdb_outside.specs.rdb_types.Order.{dbkey_order}
+use Rattle.area_files.specs.rdb_page.Page.{IsOwner}
 use Rattle.area_files.specs.Areas.{IsSpacePage}
 use Rattle.line_view.specs.Knowledge.{line_in}
 use Rattle.line_store.specs.Shelves.{Space, Shelf, seen_by, Elapses}

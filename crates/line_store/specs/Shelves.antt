@@ -1,6 +1,6 @@
 -- What a store of lines holds.
 use Rattle.std.specs.Prelude.{◌≡◌, ◌≤◌, ◌<◌, ◌-◌, ◌^◌, ◌==◌, if◌then◌else◌, ℕ, Bool, false, None, sum_by}
-use Rattle.rdb_types.specs.declared.keys.Limits.{Limits}
+use Rattle.rdb_outside.specs.rdb_types.declared.keys.Limits.{Limits}
 use Rattle.line_view.specs.Knowledge.{Lines}
 use Rattle.line_view.specs.Writes.{laid_all}
 use Rattle.line_store.specs.Seats.{Seat, outside, beginning, writing, changing, prepared, committing, rolling_back, closing, reading, dead, in_flight, members, set_aside}

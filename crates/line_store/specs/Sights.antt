@@ -1,6 +1,6 @@
 -- What a store shows of what it holds. A store on a disk holds its lines there, so that its memory alone doesn't say which they are: it shows a shelf, and which one is a relation.
 use Rattle.std.specs.Prelude.{take, ◌≡◌, ◌≤◌, ◌<◌, ◌==◌, ◌^◌, ℕ, true, false, List, [], Option, Some, None, Result, Ok, Err, is_some}
-use Rattle.rdb_types.specs.declared.keys.Dbkey.{Dbkey}
+use Rattle.rdb_outside.specs.rdb_types.declared.keys.Dbkey.{Dbkey}
 use Rattle.line_view.specs.Knowledge.{Lines, line_in, lines_in}
 use Rattle.line_view.specs.Held.{Held, with_line, with_area}
 use Rattle.line_store.specs.declared.answers.Fault.{Fault}

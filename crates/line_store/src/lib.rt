@@ -6,4 +6,7 @@ mod answers;
 mod store;
 
 pub use answers::{ChangeStop, CommitStop, Fault, Progress, ReadStop, Stepped};
+pub use area_files;
+pub use area_files::rdb_page;
+pub use rdb_outside;
 pub use store::LineStore;

@@ -1,7 +1,7 @@
 use crate::{ChangeStop, CommitStop, Fault, Progress, ReadStop, Stepped};
 use area_files::AreaFull;
 use line_view::{Known, Write};
-use rdb_types::{Dbkey, Moment, NoMemory, Session};
+use rdb_outside::rdb_types::{Dbkey, Moment, NoMemory, Session};
 use std::alloc::Global;
 
 /// The committed lines of a database, what the open transactions wrote, and the lines at each reader's start.
@@ -12,7 +12,7 @@ pub trait LineStore {
     ghost use Rattle.std.specs.Prelude.{◌≡◌, ℕ, Ok, [], IfOk, IfErr, OnOk, OnErr, true, false};
     ghost use Rattle.line_view.specs.Knowledge.{IsInOrder, Agrees as AgreesWith};
     ghost use Rattle.line_view.specs.Held.{knows};
-    ghost use Rattle.rdb_page.specs.Page.{IsOwner, IsClass};
+    ghost use Rattle.area_files.specs.rdb_page.Page.{IsOwner, IsClass};
     ghost use Rattle.line_store.specs.declared.answers.Progress.TheVariants.{Done, More};
     ghost use Rattle.line_store.specs.declared.answers.Stepped.TheVariants as stepped;
     ghost use Rattle.line_store.specs.Seats.{outside, beginning, writing, changing, prepared, committing, rolling_back, reading, IsMember, IsWriting, IsPrepared, IsAtRest, IsReader, IsUnderWay, IsAlive, is_committing, died};

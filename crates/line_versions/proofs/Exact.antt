@@ -3,9 +3,9 @@ use Rattle.std.proofs.Common.{◌≡◌, ◌≢◌, ◌≤◌, ◌<◌, ◌+◌,
 use Rattle.std.specs.Prelude.{nat_eq}
 use Rattle.std.specs.List.{list_any}
 use Rattle.std.proofs.lemmas.Bool.{false≢true}
-use Rattle.rdb_types.specs.declared.keys.Dbkey.{Dbkey}
-use Rattle.rdb_types.specs.declared.keys.Tsn.{Tsn}
-use Rattle.rdb_types.specs.declared.keys.Line.{Line}
+use Rattle.rdb_outside.specs.rdb_types.declared.keys.Dbkey.{Dbkey}
+use Rattle.rdb_outside.specs.rdb_types.declared.keys.Tsn.{Tsn}
+use Rattle.rdb_outside.specs.rdb_types.declared.keys.Line.{Line}
 use Rattle.snapshot_file.specs.declared.entry.SnapEntry.{SnapEntry}
 use Rattle.line_versions.specs.Versions.{Entries, IsOneEach, Followed, snap_of, version_of, Start, sees, Walk}
 use Rattle.line_versions.specs.Course.{Reading, Course, opened, with_followed, without_entry, with_going, with_readers, committed, begun, MayBeGiven, AreOthers, IsSettled, IsLeft, AreActive, IsAbove, IsChanged, AreRight}

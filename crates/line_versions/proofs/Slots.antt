@@ -1,9 +1,9 @@
 -- Writes of snapshot slots, and slots that are given back.
 use Rattle.std.proofs.Common.{ap, ◌⊎◌, inl, inr, ◌≡◌, ◌≤◌, ◌-◌, ℕ, ◌==◌, ◌&&◌, Bool, true, false, cond, List, refl, sym, ◌∙◌, subst, arith}
 use Rattle.std.proofs.lemmas.Bool.{false≢true}
-use Rattle.rdb_types.specs.declared.file.FileId.{FileId}
-use Rattle.rdb_types.specs.declared.keys.Dbkey.{Dbkey}
-use Rattle.rdb_types.specs.declared.keys.Line.{Line}
+use Rattle.rdb_outside.specs.rdb_types.declared.file.FileId.{FileId}
+use Rattle.rdb_outside.specs.rdb_types.declared.keys.Dbkey.{Dbkey}
+use Rattle.rdb_outside.specs.rdb_types.declared.keys.Line.{Line}
 use Rattle.rdb_outside.specs.Disk.{Image, Puts}
 use Rattle.snapshot_file.specs.declared.entry.SnapEntry.{SnapEntry}
 use Rattle.snapshot_file.specs.Entry.{IsEntry}

@@ -1,10 +1,10 @@
 -- Steps of transactions and readers: each keeps what is always true of the versions.
 use Rattle.std.proofs.Common.{◌≡◌, ◌≢◌, ◌≤◌, ◌<◌, ◌+◌, ℕ, Bool, true, false, List, Option, Some, None, refl, sym, ◌∙◌, ap, subst, arith, ◌⊎◌, inl, inr, ⊎_elim}
 use Rattle.std.proofs.lemmas.Bool.{false≢true}
-use Rattle.rdb_types.specs.declared.keys.Dbkey.{Dbkey}
-use Rattle.rdb_types.specs.declared.keys.Tsn.{Tsn}
-use Rattle.rdb_types.specs.declared.keys.Line.{Line}
-use Rattle.rdb_types.specs.declared.keys.LineState.TheVariants.{Never}
+use Rattle.rdb_outside.specs.rdb_types.declared.keys.Dbkey.{Dbkey}
+use Rattle.rdb_outside.specs.rdb_types.declared.keys.Tsn.{Tsn}
+use Rattle.rdb_outside.specs.rdb_types.declared.keys.Line.{Line}
+use Rattle.rdb_outside.specs.rdb_types.declared.keys.LineState.TheVariants.{Never}
 use Rattle.snapshot_file.specs.declared.entry.SnapEntry.{SnapEntry}
 use Rattle.line_versions.specs.Lines.{shown}
 use Rattle.line_versions.specs.Versions.{Entries, Followed, snap_of, sees, Sees}

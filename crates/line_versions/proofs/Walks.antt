@@ -2,11 +2,11 @@
 use Rattle.std.proofs.Common.{◌≡◌, ◌≤◌, ◌<◌, ℕ, ◌==◌, ◌&&◌, Bool, true, false, not, List, [], ◌∷◌, Option, None, refl, sym, ◌∙◌, ap, subst, arith, inl, inr}
 use Rattle.std.specs.Prelude.{nat_lt}
 use Rattle.std.specs.List.{list_any}
-use Rattle.rdb_types.specs.declared.keys.Dbkey.{Dbkey}
-use Rattle.rdb_types.specs.declared.keys.Tsn.{Tsn}
-use Rattle.rdb_types.specs.declared.keys.Line.{Line}
-use Rattle.rdb_types.specs.declared.keys.LineState.{LineState}
-use Rattle.rdb_types.specs.declared.keys.LineState.TheVariants.{Never}
+use Rattle.rdb_outside.specs.rdb_types.declared.keys.Dbkey.{Dbkey}
+use Rattle.rdb_outside.specs.rdb_types.declared.keys.Tsn.{Tsn}
+use Rattle.rdb_outside.specs.rdb_types.declared.keys.Line.{Line}
+use Rattle.rdb_outside.specs.rdb_types.declared.keys.LineState.{LineState}
+use Rattle.rdb_outside.specs.rdb_types.declared.keys.LineState.TheVariants.{Never}
 use Rattle.snapshot_file.specs.declared.entry.SnapEntry.{SnapEntry}
 use Rattle.line_versions.specs.Lines.{shown, shown_as}
 use Rattle.line_versions.specs.Versions.{Entries, Followed, snap_of, version_of, Start, sees, LeadsOn, Walk, Sees}

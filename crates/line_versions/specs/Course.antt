@@ -1,10 +1,10 @@
 -- How the versions stand while transactions go on, and what is always true of them.
 use Rattle.std.specs.Prelude.{ℕ, ◌≤◌, ◌<◌, ◌≡◌, ◌≢◌, ◌⊎◌, ◌==◌, ◌&&◌, Bool, true, false, List, Option, Some, None, if◌then◌else◌}
 use Rattle.std.specs.List.{list_any}
-use Rattle.rdb_types.specs.declared.keys.Dbkey.{Dbkey}
-use Rattle.rdb_types.specs.declared.keys.Tsn.{Tsn}
-use Rattle.rdb_types.specs.declared.keys.Line.{Line}
-use Rattle.rdb_types.specs.declared.keys.LineState.TheVariants.{Never}
+use Rattle.rdb_outside.specs.rdb_types.declared.keys.Dbkey.{Dbkey}
+use Rattle.rdb_outside.specs.rdb_types.declared.keys.Tsn.{Tsn}
+use Rattle.rdb_outside.specs.rdb_types.declared.keys.Line.{Line}
+use Rattle.rdb_outside.specs.rdb_types.declared.keys.LineState.TheVariants.{Never}
 use Rattle.snapshot_file.specs.declared.entry.SnapEntry.{SnapEntry}
 use Rattle.line_versions.specs.Lines.{shown}
 use Rattle.line_versions.specs.Versions.{Entries, Followed, snap_of, version_of, Start, sees, Sees}

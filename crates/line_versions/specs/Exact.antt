@@ -1,8 +1,8 @@
 -- Which entries a reader may still want: exactly those whose transaction had not ended when it began.
 use Rattle.std.specs.Prelude.{ℕ, ◌≤◌, ◌<◌, ◌≡◌, true, false, List, nat_eq, Some}
 use Rattle.std.specs.List.{list_any}
-use Rattle.rdb_types.specs.declared.keys.Dbkey.{Dbkey}
-use Rattle.rdb_types.specs.declared.keys.Line.{Line}
+use Rattle.rdb_outside.specs.rdb_types.declared.keys.Dbkey.{Dbkey}
+use Rattle.rdb_outside.specs.rdb_types.declared.keys.Line.{Line}
 use Rattle.snapshot_file.specs.declared.entry.SnapEntry.{SnapEntry}
 use Rattle.line_versions.specs.Versions.{Entries, snap_of, sees, Walk}
 use Rattle.line_versions.specs.Course.{Reading, Course}

@@ -1,7 +1,7 @@
 -- The entries that the snapshot files of a database hold.
 use Rattle.std.specs.Prelude.{ℕ, ◌-◌, ◌≤◌, ◌≡◌, true}
-use Rattle.rdb_types.specs.declared.file.FileId.{FileId}
-use Rattle.rdb_types.specs.declared.file.FileKind.TheVariants.{Snap}
+use Rattle.rdb_outside.specs.rdb_types.declared.file.FileId.{FileId}
+use Rattle.rdb_outside.specs.rdb_types.declared.file.FileKind.TheVariants.{Snap}
 use Rattle.rdb_outside.specs.Disk.{Image}
 use Rattle.snapshot_file.specs.declared.entry.SnapEntry.{SnapEntry}
 use Rattle.snapshot_file.specs.Entry.{IsEntry}

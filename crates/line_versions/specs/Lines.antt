@@ -1,8 +1,8 @@
 -- What a line shows, and the storage area that it lies in.
 use Rattle.std.specs.Prelude.{ℕ, ◌%◌, nat_eq, List, Option, Some, None, if◌then◌else◌}
-use Rattle.rdb_types.specs.declared.keys.Line.{Line}
-use Rattle.rdb_types.specs.declared.keys.LineState.{LineState}
-use Rattle.rdb_types.specs.declared.keys.LineState.TheVariants.{Never, Present, Erased}
+use Rattle.rdb_outside.specs.rdb_types.declared.keys.Line.{Line}
+use Rattle.rdb_outside.specs.rdb_types.declared.keys.LineState.{LineState}
+use Rattle.rdb_outside.specs.rdb_types.declared.keys.LineState.TheVariants.{Never, Present, Erased}
 
 -- the storage area of a logical area: 1 the catalog, 2 relations, 3 indexes
 abbrev pub storage_area : ℕ → ℕ

@@ -1,9 +1,9 @@
 // What is always true of versions, and that each step keeps it.
 ghost use Rattle.std.specs.Prelude.{◌≡◌, ◌≢◌, ◌≤◌, ◌<◌, ◌+◌, ◌-◌, ◌⊎◌, ℕ, Bool, false, true, List, length, Option, Some, None};
-ghost use Rattle.rdb_types.specs.declared.file.FileId.{FileId};
-ghost use Rattle.rdb_types.specs.declared.keys.Dbkey.{Dbkey};
-ghost use Rattle.rdb_types.specs.declared.keys.Line.{Line};
-ghost use Rattle.rdb_types.specs.declared.keys.LineState.TheVariants.{Never};
+ghost use Rattle.rdb_outside.specs.rdb_types.declared.file.FileId.{FileId};
+ghost use Rattle.rdb_outside.specs.rdb_types.declared.keys.Dbkey.{Dbkey};
+ghost use Rattle.rdb_outside.specs.rdb_types.declared.keys.Line.{Line};
+ghost use Rattle.rdb_outside.specs.rdb_types.declared.keys.LineState.TheVariants.{Never};
 ghost use Rattle.rdb_outside.specs.Disk.{Image, Puts};
 ghost use Rattle.snapshot_file.specs.declared.entry.SnapEntry.{SnapEntry};
 ghost use Rattle.line_versions.specs.Lines.{shown};

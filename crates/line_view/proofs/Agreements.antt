@@ -15,9 +15,9 @@ use Rattle.std.proofs.lemmas.Bool.Decides.{eqb_tells}
 use Rattle.std.proofs.lemmas.List.{append-nil, append_assoc}
 use Rattle.std.proofs.lemmas.Option.{none-some, same_Some}
 use Rattle.std.proofs.lemmas.Cmp.{ranked}
-use Rattle.rdb_types.specs.declared.keys.Dbkey.{Dbkey}
-use Rattle.rdb_types.specs.Order.{dbkey_order}
-use Rattle.rdb_types.specs.OrderLaws.{dbkey_total, same_dbkey}
+use Rattle.ordered_entries.specs.rdb_types.declared.keys.Dbkey.{Dbkey}
+use Rattle.ordered_entries.specs.rdb_types.Order.{dbkey_order}
+use Rattle.ordered_entries.specs.rdb_types.OrderLaws.{dbkey_total, same_dbkey}
 use Rattle.line_view.specs.declared.need.Room.{Room}
 use Rattle.line_view.specs.Knowledge.{Lines, Agrees, line_in, lines_in, keys_of, laid}
 use Rattle.line_view.specs.declared.known.PresentLine.{PresentLine}

@@ -11,7 +11,7 @@ use Rattle.std.specs.FinMap.Entries.{find, put, by_order, below_all, is_sorted, 
 use Rattle.std.specs.Map.{lookup, set_value, remove_entry}
 use Rattle.std.specs.BTreeMap.{is_at, insert_entry}
 use Rattle.std.specs.BTreeSet.{BTreeSet}
-use Rattle.rdb_types.specs.declared.keys.Dbkey.{Dbkey}
+use Rattle.ordered_entries.specs.rdb_types.declared.keys.Dbkey.{Dbkey}
 use Rattle.std.proofs.lemmas.Option.{same_Some}
 use Rattle.line_view.specs.Held.{key_sets}
 

@@ -12,9 +12,9 @@ use Rattle.std.specs.BTreeSet.{insert_key}
 use Rattle.std.proofs.Math.Dec.{eqb_refl}
 use Rattle.std.proofs.lemmas.Bool.{and_parts}
 use Rattle.std.proofs.lemmas.Option.{none-some}
-use Rattle.rdb_types.specs.declared.keys.Dbkey.{Dbkey}
-use Rattle.rdb_types.specs.Order.{dbkey_order}
-use Rattle.rdb_types.specs.OrderLaws.{dbkey_total, same_dbkey}
+use Rattle.ordered_entries.specs.rdb_types.declared.keys.Dbkey.{Dbkey}
+use Rattle.ordered_entries.specs.rdb_types.Order.{dbkey_order}
+use Rattle.ordered_entries.specs.rdb_types.OrderLaws.{dbkey_total, same_dbkey}
 use Rattle.line_view.specs.Knowledge.{Lines, line_in, lines_in, keys_of, laid}
 use Rattle.line_view.specs.Held.{written}
 

@@ -10,8 +10,8 @@ use Rattle.std.specs.Map.{lookup, set_value, remove_entry}
 use Rattle.std.specs.List.Sorted.{IsStrictlySortedBy}
 use Rattle.std.specs.BTreeMap.{is_at, insert_entry}
 use Rattle.std.specs.BTreeSet.{BTreeSet}
-use Rattle.rdb_types.specs.declared.keys.Dbkey.{Dbkey}
-use Rattle.rdb_types.specs.Order.{dbkey_order}
+use Rattle.ordered_entries.specs.rdb_types.declared.keys.Dbkey.{Dbkey}
+use Rattle.ordered_entries.specs.rdb_types.Order.{dbkey_order}
 use Rattle.line_view.specs.declared.need.Room.{Room}
 use Rattle.line_view.specs.declared.view.Seen.{Seen}
 use Rattle.line_view.specs.declared.view.Seen.TheVariants.{Unknown, Absent, Present}
@@ -20,7 +20,7 @@ use Rattle.line_view.specs.declared.known.PresentLine.{PresentLine}
 use Rattle.line_view.specs.Held.{Held, room_order, TakesBack, with_line, with_room, with_write, written, areas_written, with_written, with_lines, with_keys, with_area, ordered, entry_of, key_sets, unless_present, usable, AreRooms}
 use Rattle.line_view.proofs.Entries.{find_lookup, put_insert, find_keys, set_keys, insert_keys, set_same, found_behind, sorted_entries, remove-put}
 use Rattle.ordered_entries.proofs.Laws.{put-put, put_found, find-put_same}
-use Rattle.rdb_types.specs.OrderLaws.{dbkey_total}
+use Rattle.ordered_entries.specs.rdb_types.OrderLaws.{dbkey_total}
 use Rattle.std.proofs.Common.{arith}
 use Rattle.std.proofs.lemmas.List.{length-map, get_or-map, take_more, take_all}
 use Rattle.std.proofs.lemmas.Option.{none-some}

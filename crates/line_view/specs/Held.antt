@@ -8,8 +8,8 @@ use Rattle.std.specs.BTreeMap.{is_at}
 use Rattle.std.specs.BTreeSet.{BTreeSet, insert_key}
 use Rattle.std.specs.Map.{set_value}
 use Rattle.std.specs.Set.{remove_key}
-use Rattle.rdb_types.specs.declared.keys.Dbkey.{Dbkey}
-use Rattle.rdb_types.specs.Order.{dbkey_order}
+use Rattle.ordered_entries.specs.rdb_types.declared.keys.Dbkey.{Dbkey}
+use Rattle.ordered_entries.specs.rdb_types.Order.{dbkey_order}
 use Rattle.line_view.specs.declared.need.Room.{Room}
 use Rattle.line_view.specs.declared.known.PresentLine.{PresentLine}
 use Rattle.line_view.specs.Knowledge.{Knowledge, Lines, keys_of}

@@ -2,7 +2,7 @@ ghost use Rattle.std.specs.Prelude.{◌≡◌, option_map};
 ghost use Rattle.line_view.specs.Knowledge.{Knowledge, Shows};
 
 use crate::Room;
-use rdb_types::Dbkey;
+use ordered_entries::rdb_types::Dbkey;
 use std::collections::BTreeSet;
 
 /// What a view answers of a line.

@@ -3,9 +3,9 @@ use Rattle.std.proofs.Common.{◌≡◌, ℕ, Option, Some, None, subst}
 use Rattle.rdb_types.specs.declared.keys.Dbkey.{Dbkey}
 use Rattle.rdb_types.specs.OrderLaws.{dbkey_total}
 use Rattle.line_store.specs.Rooms.{IsBehind}
-use Rattle.page_table.specs.declared.uses.Sought.{Sought}
-use Rattle.page_table.specs.Pages.{Pages}
-use Rattle.page_table.specs.Scans.{Fits}
+use Rattle.committed_tables.specs.page_table.declared.uses.Sought.{Sought}
+use Rattle.committed_tables.specs.page_table.Pages.{Pages}
+use Rattle.committed_tables.specs.page_table.Scans.{Fits}
 
 -- where it is looked for: behind the line at the beginning, or behind one that is behind it
 pub data IsFurther (from : Option Dbkey) : Option Dbkey → Type 0 where

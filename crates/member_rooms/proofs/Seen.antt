@@ -12,9 +12,9 @@ use Rattle.line_view.specs.Knowledge.{Lines, line_in}
 use Rattle.line_view.specs.Writes.{laid_all}
 use Rattle.line_store.specs.Shelves.{Shelf, seen_by}
 use Rattle.line_store.specs.Rooms.{IsRoom, IsFull, first_line}
-use Rattle.page_table.specs.declared.uses.Sought.TheVariants.{Free}
-use Rattle.page_table.specs.Pages.{Pages, IsUsedLine, owner_in}
-use Rattle.page_table.specs.Scans.{Fits}
+use Rattle.committed_tables.specs.page_table.declared.uses.Sought.TheVariants.{Free}
+use Rattle.committed_tables.specs.page_table.Pages.{Pages, IsUsedLine, owner_in}
+use Rattle.committed_tables.specs.page_table.Scans.{Fits}
 use Rattle.committed_tables.specs.Tables.{HasCommitted}
 use Rattle.store_shows.specs.Rooms.{is_free, HasPages}
 use Rattle.store_shows.proofs.Taken.{free_new, is_taken, isn't_taken}

@@ -1,6 +1,6 @@
 -- The class of an area's pages, by the table.
 use Rattle.std.specs.Prelude.{ℕ, ◌≡◌}
-use Rattle.page_table.specs.Pages.{Pages, owner_in, class_in, IsWithin}
+use Rattle.committed_tables.specs.page_table.Pages.{Pages, owner_in, class_in, IsWithin}
 
 -- some page of the area has this class
 pub record IsClassOf (pages : Pages) (area class : ℕ) : Type 0 where

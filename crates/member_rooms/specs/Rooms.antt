@@ -6,9 +6,9 @@ use Rattle.rdb_types.specs.declared.keys.Line.{Line}
 use Rattle.rdb_types.specs.Order.{dbkey_order}
 use Rattle.line_store.specs.Rooms.{first_line}
 use Rattle.line_versions.specs.Lines.{shown}
-use Rattle.page_table.specs.declared.uses.Sought.TheVariants.{Free}
-use Rattle.page_table.specs.Pages.{Pages}
-use Rattle.page_table.specs.Scans.{Fits, IsNew}
+use Rattle.committed_tables.specs.page_table.declared.uses.Sought.TheVariants.{Free}
+use Rattle.committed_tables.specs.page_table.Pages.{Pages}
+use Rattle.committed_tables.specs.page_table.Scans.{Fits, IsNew}
 
 -- the image that the transaction wrote, if it wrote the line
 abbrev pub image_of : Option Line → Option (List ℕ)

@@ -8,7 +8,7 @@ ghost use Rattle.rdb_page.specs.Page.{IsOwner};
 ghost use Rattle.line_view.specs.Writes.{laid_all};
 ghost use Rattle.line_store.specs.Shelves.{Shelf, seen_by};
 ghost use Rattle.line_store.specs.Rooms.{IsRoom, IsFull};
-ghost use Rattle.page_table.specs.Pages.{Pages};
+ghost use Rattle.committed_tables.specs.page_table.Pages.{Pages};
 ghost use Rattle.committed_tables.specs.Tables.{HasCommitted};
 ghost use Rattle.store_shows.specs.Rooms.{HasPages};
 ghost use Rattle.member_memory.specs.Memory.{writes_in};

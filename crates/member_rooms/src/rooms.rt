@@ -2,13 +2,13 @@
 ghost use Rattle.std.specs.Prelude.{◌≡◌, ◌<◌, ◌≤◌, ◌-◌, ◌^◌, ℕ, List, None, Some, true, false, IfSome, IfNone};
 ghost use Rattle.line_store.specs.Rooms.{first_line};
 ghost use Rattle.line_versions.specs.Lines.{shown};
-ghost use Rattle.page_table.specs.declared.uses.Sought.TheVariants.{Free};
-ghost use Rattle.page_table.specs.Scans.{Fits, IsNew};
+ghost use Rattle.committed_tables.specs.page_table.declared.uses.Sought.TheVariants.{Free};
+ghost use Rattle.committed_tables.specs.page_table.Scans.{Fits, IsNew};
 ghost use Rattle.member_rooms.specs.Rooms.{own_image, IsRoomBeside, HasNoPage};
 
 use area_files::is_space_page;
+use committed_tables::page_table::{PageTable, Sought};
 use member_memory::MemberLines;
-use page_table::{PageTable, Sought};
 use rdb_types::{Dbkey, Line, LineState};
 
 // Whether a line has an image.

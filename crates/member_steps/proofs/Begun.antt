@@ -5,8 +5,8 @@ use Rattle.root_file.specs.declared.Root.{Root}
 use Rattle.root_file.specs.Root.{IsRoot}
 use Rattle.root_file.proofs.Readings.{one_root}
 use Rattle.new_database.specs.Maker.{root_file}
-use Rattle.stable_lines.specs.Progress.{Progress}
-use Rattle.stable_lines.specs.Facts.{Facts}
+use Rattle.disk_seats.specs.stable_lines.Progress.{Progress}
+use Rattle.disk_seats.specs.stable_lines.Facts.{Facts}
 use Rattle.disk_seats.specs.Ledgers.{new_ledger}
 use Rattle.disk_seats.specs.Members.{LedgerFacts}
 use Rattle.disk_seats.proofs.Marked.{new_facts}

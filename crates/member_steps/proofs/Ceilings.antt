@@ -10,10 +10,10 @@ use Rattle.root_file.proofs.Readings.{one_root}
 use Rattle.area_files.specs.Areas.{IsDataPage, space_page_of}
 use Rattle.space_pages.specs.Space.{owner_of}
 use Rattle.new_database.specs.Maker.{root_file}
-use Rattle.stable_lines.specs.Slots.{area_file, owner_at, IsAreaFile}
-use Rattle.line_moves.specs.declared.places.Place.{Place}
-use Rattle.line_moves.specs.Calls.{OnlyWrites}
-use Rattle.line_moves.specs.Changes.{IsForArea}
+use Rattle.disk_seats.specs.stable_lines.Slots.{area_file, owner_at, IsAreaFile}
+use Rattle.disk_seats.specs.line_moves.declared.places.Place.{Place}
+use Rattle.disk_seats.specs.line_moves.Calls.{OnlyWrites}
+use Rattle.disk_seats.specs.line_moves.Changes.{IsForArea}
 use Rattle.disk_seats.specs.Ledgers.{Ledger}
 use Rattle.disk_seats.specs.Members.{LedgerFacts}
 use Rattle.member_steps.specs.Beginning.{HasCeiling}

@@ -12,21 +12,21 @@ use Rattle.rdb_page.specs.Whole.{IsUsedPage}
 use Rattle.rdb_outside.specs.Disk.{View, LeftNow, Pending}
 use Rattle.area_files.specs.Areas.{IsDataPage}
 use Rattle.line_versions.specs.Lines.{storage_area, shown, shown_as}
-use Rattle.stable_lines.specs.Slots.{file_of, slot_of, owner_at, has_place, line_on, IsAreaFile}
-use Rattle.stable_lines.specs.Kept.{FitsClass}
-use Rattle.stable_lines.specs.Progress.{Flight, Progress}
-use Rattle.stable_lines.specs.Facts.{PendingContents, IsCommitted, IsChanged, Facts}
-use Rattle.stable_lines.proofs.Laying.{IsLaid, IsLeft, found_behind}
-use Rattle.stable_lines.proofs.Never.{zeros_owner, space_owner}
+use Rattle.disk_seats.specs.stable_lines.Slots.{file_of, slot_of, owner_at, has_place, line_on, IsAreaFile}
+use Rattle.disk_seats.specs.stable_lines.Kept.{FitsClass}
+use Rattle.disk_seats.specs.stable_lines.Progress.{Flight, Progress}
+use Rattle.disk_seats.specs.stable_lines.Facts.{PendingContents, IsCommitted, IsChanged, Facts}
+use Rattle.disk_seats.proofs.of_stable_lines.Laying.{IsLaid, IsLeft, found_behind}
+use Rattle.disk_seats.proofs.of_stable_lines.Never.{zeros_owner, space_owner}
 use Rattle.journal_scan.specs.declared.group.Group.{Group}
-use Rattle.line_moves.specs.Classes.{HaveTheirClasses}
-use Rattle.line_moves.specs.Lines.{ChangedLines, ArePut}
-use Rattle.line_moves.proofs.Putting.{HasPlace, place_says}
-use Rattle.line_moves.proofs.Reading.{class_is, line_is, line_none}
-use Rattle.line_moves.proofs.Runs.{pends}
-use Rattle.line_seat.specs.declared.commit.GroupPlace.{GroupPlace}
-use Rattle.line_seat.specs.Groups.{HaveClasses, group_of}
-use Rattle.line_seat.proofs.GroupSlots.{of_lines}
+use Rattle.disk_seats.specs.line_moves.Classes.{HaveTheirClasses}
+use Rattle.disk_seats.specs.line_moves.Lines.{ChangedLines, ArePut}
+use Rattle.disk_seats.proofs.of_line_moves.Putting.{HasPlace, place_says}
+use Rattle.disk_seats.proofs.of_line_moves.Reading.{class_is, line_is, line_none}
+use Rattle.disk_seats.proofs.of_line_moves.Runs.{pends}
+use Rattle.disk_seats.specs.line_seat.declared.commit.GroupPlace.{GroupPlace}
+use Rattle.disk_seats.specs.line_seat.Groups.{HaveClasses, group_of}
+use Rattle.disk_seats.proofs.of_line_seat.GroupSlots.{of_lines}
 
 pub is_area_file : (area : ℕ) → IsAreaFile (storage_area area)
 is_area_file area = of (nat_eq area 1) (nat_eq (area % 2) 0)

@@ -6,15 +6,15 @@ use Rattle.rdb_outside.specs.Disk.{View, LeftNow, OnlyReads, Pending}
 use Rattle.area_files.specs.Areas.{space_page_of}
 use Rattle.space_pages.specs.Space.{IsSpace}
 use Rattle.rdb_page.specs.Whole.{IsPageOf}
-use Rattle.stable_lines.specs.Slots.{IsMember, area_file, ruj_file, named, line_at, Undo}
-use Rattle.stable_lines.specs.Kept.{IsRujHeader}
-use Rattle.stable_lines.specs.Progress.{Open}
-use Rattle.line_moves.specs.declared.places.Place.{Place}
-use Rattle.line_moves.specs.Changes.{IsPlaceOf}
-use Rattle.line_moves.proofs.Entering.{space_there}
-use Rattle.line_moves.proofs.KeyPlaces.{area_is}
-use Rattle.line_moves.proofs.Runs.{facts_read, pends}
-use Rattle.line_moves.proofs.OnlyPut.{keeps_lines}
+use Rattle.disk_seats.specs.stable_lines.Slots.{IsMember, area_file, ruj_file, named, line_at, Undo}
+use Rattle.disk_seats.specs.stable_lines.Kept.{IsRujHeader}
+use Rattle.disk_seats.specs.stable_lines.Progress.{Open}
+use Rattle.disk_seats.specs.line_moves.declared.places.Place.{Place}
+use Rattle.disk_seats.specs.line_moves.Changes.{IsPlaceOf}
+use Rattle.disk_seats.proofs.of_line_moves.Entering.{space_there}
+use Rattle.disk_seats.proofs.of_line_moves.KeyPlaces.{area_is}
+use Rattle.disk_seats.proofs.of_line_moves.Runs.{facts_read, pends}
+use Rattle.disk_seats.proofs.of_line_moves.OnlyPut.{keeps_lines}
 use Rattle.disk_seats.specs.Ledgers.{changing, Ledger, progress_of, stands_as}
 use Rattle.disk_seats.specs.Members.{LedgerFacts}
 use Rattle.disk_seats.proofs.Settled.{read_behind}

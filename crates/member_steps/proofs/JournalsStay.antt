@@ -4,8 +4,8 @@ use Rattle.rdb_types.specs.declared.file.FileId.{FileId}
 use Rattle.rdb_types.specs.declared.file.FileKind.TheVariants.{Aij, Area, Ruj}
 use Rattle.rdb_outside.specs.Disk.{View}
 use Rattle.area_files.specs.Areas.{IsDataPage}
-use Rattle.stable_lines.specs.Slots.{area_file, ruj_file}
-use Rattle.line_moves.specs.Calls.{OnlyWrites}
+use Rattle.disk_seats.specs.stable_lines.Slots.{area_file, ruj_file}
+use Rattle.disk_seats.specs.line_moves.Calls.{OnlyWrites}
 
 pub journals_beside : (v w : View) (file : FileId) (slot : ℕ) → IsTrue v.tells → file.kind ≢ Ruj → OnlyWrites file slot v w → (member i : ℕ) → w.content (ruj_file member) i ≡ v.content (ruj_file member) i
 journals_beside v w file slot t other only member i = only.content t (ruj_file member) i (λ same at. other (ap (λ (f : FileId). f.kind) (sym same)))

@@ -3,12 +3,12 @@ use Rattle.std.proofs.Common.{◌≡◌, ℕ, ◌-◌, ◌≤◌, IsTrue, length
 use Rattle.rdb_outside.specs.Disk.{View, Image, SameContent, IsStable, OnlyReads}
 use Rattle.area_files.specs.Areas.{IsDataPage, space_page_of}
 use Rattle.space_pages.specs.Space.{owner_of}
-use Rattle.stable_lines.specs.Slots.{area_file}
-use Rattle.line_moves.specs.Calls.{OnlyWrites}
-use Rattle.line_moves.specs.Lines.{ChangedLines}
-use Rattle.line_moves.proofs.PageWrite.{space_apart}
-use Rattle.line_seat.specs.declared.commit.CommitStage.{CommitStage}
-use Rattle.line_seat.specs.declared.commit.CommitStage.TheVariants.{Changing, Imaging, Gathering, Sealing, Landing, Committed}
+use Rattle.disk_seats.specs.stable_lines.Slots.{area_file}
+use Rattle.disk_seats.specs.line_moves.Calls.{OnlyWrites}
+use Rattle.disk_seats.specs.line_moves.Lines.{ChangedLines}
+use Rattle.disk_seats.proofs.of_line_moves.PageWrite.{space_apart}
+use Rattle.disk_seats.specs.line_seat.declared.commit.CommitStage.{CommitStage}
+use Rattle.disk_seats.specs.line_seat.declared.commit.CommitStage.TheVariants.{Changing, Imaging, Gathering, Sealing, Landing, Committed}
 use Rattle.disk_seats.specs.Ledgers.{gained, Ledger, all_stable, taken_up, new_commit, behind_step}
 use Rattle.disk_seats.specs.Members.{LedgerFacts, AreOwned}
 use Rattle.disk_seats.proofs.Entered.{all_entered}

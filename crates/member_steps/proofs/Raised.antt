@@ -3,11 +3,11 @@ use Rattle.std.proofs.Common.{◌≡◌, ℕ, IsTrue, ◌∙◌}
 use Rattle.rdb_types.specs.declared.file.FileId.{FileId}
 use Rattle.rdb_outside.specs.Disk.{View, Pending, LeavesOnly, OnlyReads}
 use Rattle.new_database.specs.Maker.{root_file}
-use Rattle.stable_lines.specs.Progress.{Progress}
-use Rattle.stable_lines.specs.Facts.{Facts, StandsAs}
-use Rattle.line_moves.specs.Calls.{OnlyWrites}
-use Rattle.line_moves.proofs.Runs.{still_tells, facts_read}
-use Rattle.line_opening.proofs.Standing.{read_stands, written_stands, leaves_on}
+use Rattle.disk_seats.specs.stable_lines.Progress.{Progress}
+use Rattle.disk_seats.specs.stable_lines.Facts.{Facts, StandsAs}
+use Rattle.disk_seats.specs.line_moves.Calls.{OnlyWrites}
+use Rattle.disk_seats.proofs.of_line_moves.Runs.{still_tells, facts_read}
+use Rattle.disk_seats.proofs.of_line_opening.Standing.{read_stands, written_stands, leaves_on}
 
 module _ (old mid put : View) (reads : OnlyReads old mid) (writes : OnlyWrites root_file 0 mid put) (t : IsTrue old.tells) where
   told : IsTrue mid.tells

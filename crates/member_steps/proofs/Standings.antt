@@ -6,10 +6,10 @@ use Rattle.rdb_outside.specs.Disk.{View, LeftNow, Pending}
 use Rattle.rdb_outside.specs.Moments.{each_slot}
 use Rattle.line_view.specs.Knowledge.{line_in}
 use Rattle.line_versions.specs.Lines.{shown}
-use Rattle.stable_lines.specs.Slots.{ruj_file, file_of, slot_of, line_at}
-use Rattle.stable_lines.specs.Progress.{Open, Progress}
-use Rattle.stable_lines.specs.Facts.{IsNotOpen, IsChanged}
-use Rattle.stable_lines.proofs.Turns.{some_same}
+use Rattle.disk_seats.specs.stable_lines.Slots.{ruj_file, file_of, slot_of, line_at}
+use Rattle.disk_seats.specs.stable_lines.Progress.{Open, Progress}
+use Rattle.disk_seats.specs.stable_lines.Facts.{IsNotOpen, IsChanged}
+use Rattle.disk_seats.proofs.of_stable_lines.Turns.{some_same}
 use Rattle.disk_seats.specs.Ledgers.{Ledger, progress_of}
 use Rattle.disk_seats.specs.Members.{LedgerFacts}
 use Rattle.disk_seats.proofs.Progresses.{shape_of, same_going}

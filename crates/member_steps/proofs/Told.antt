@@ -8,11 +8,11 @@ use Rattle.aij_journal.specs.Part.{IsPart}
 use Rattle.journal_scan.specs.Standing.{what_stands}
 use Rattle.journal_scan.proofs.Stands.{only_stands}
 use Rattle.new_database.specs.Maker.{aij_file}
-use Rattle.stable_lines.specs.Journal.{commit_of}
-use Rattle.stable_lines.specs.Progress.{Flight, Progress}
-use Rattle.stable_lines.proofs.Turns.{some_same}
-use Rattle.line_moves.specs.Changes.{IsCommitOf}
-use Rattle.line_moves.proofs.Commits.{commit_part, commit_stands}
+use Rattle.disk_seats.specs.stable_lines.Journal.{commit_of}
+use Rattle.disk_seats.specs.stable_lines.Progress.{Flight, Progress}
+use Rattle.disk_seats.proofs.of_stable_lines.Turns.{some_same}
+use Rattle.disk_seats.specs.line_moves.Changes.{IsCommitOf}
+use Rattle.disk_seats.proofs.of_line_moves.Commits.{commit_part, commit_stands}
 
 module _ (now : Progress) (f : Flight) (slot number lines : ℕ) (tsn : Tsn) (is : IsCommitOf now f slot number tsn lines) (bytes : List ℕ) where
   pub told : (part : AijPart) → IsPart bytes part → part ≡ commit_part number tsn lines → what_stands bytes ≡ commit_of f.group

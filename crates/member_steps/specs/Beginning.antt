@@ -3,8 +3,8 @@ use Rattle.std.specs.Prelude.{ℕ, ◌+◌, ◌≤◌, ◌≡◌, List, None}
 use Rattle.root_file.specs.declared.Root.{Root}
 use Rattle.root_file.specs.Root.{IsRoot, IsAllowed}
 use Rattle.new_database.specs.Maker.{root_file}
-use Rattle.stable_lines.specs.Progress.{Progress}
-use Rattle.stable_lines.specs.Facts.{PendingContents}
+use Rattle.disk_seats.specs.stable_lines.Progress.{Progress}
+use Rattle.disk_seats.specs.stable_lines.Facts.{PendingContents}
 
 -- the root of a whole database with these limits, and room for 64 transactions more
 pub record IsRaised (root : Root) (next_tsn : ℕ) (made : Root) : Type 0 where

@@ -1,6 +1,6 @@
 -- What a step of journalling makes of the ledger.
 use Rattle.std.specs.Prelude.{ℕ, List, [], ◌∷◌, ◌++◌}
-use Rattle.stable_lines.specs.Slots.{Undo}
+use Rattle.disk_seats.specs.stable_lines.Slots.{Undo}
 use Rattle.disk_seats.specs.Ledgers.{changing, Ledger, stands_as}
 use Rattle.member_steps.specs.declared.journalling.Journalled.{Journalled}
 use Rattle.member_steps.specs.declared.journalling.Journalled.TheVariants.{Header, BeforeImage}

@@ -5,10 +5,10 @@ use Rattle.rdb_outside.specs.Disk.{Image}
 use Rattle.ruj_journal.specs.Entry.{IsEntry}
 use Rattle.line_view.specs.Knowledge.{Lines, line_in}
 use Rattle.line_versions.specs.Lines.{shown}
-use Rattle.stable_lines.specs.Slots.{ruj_file, Undo, entry_at}
-use Rattle.stable_lines.specs.Journal.{Journal}
-use Rattle.stable_lines.specs.Kept.{Kept}
-use Rattle.stable_lines.specs.Progress.{Open, lines_with}
+use Rattle.disk_seats.specs.stable_lines.Slots.{ruj_file, Undo, entry_at}
+use Rattle.disk_seats.specs.stable_lines.Journal.{Journal}
+use Rattle.disk_seats.specs.stable_lines.Kept.{Kept}
+use Rattle.disk_seats.specs.stable_lines.Progress.{Open, lines_with}
 use Rattle.disk_seats.specs.Ledgers.{Commit, Ledger}
 
 -- a before-image of the transaction is of this line, stands in its slot, and is what is committed

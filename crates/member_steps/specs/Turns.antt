@@ -3,17 +3,17 @@ use Rattle.std.specs.Prelude.{ℕ, ◌≤◌, ◌<◌, ◌≡◌, List, length, 
 use Rattle.rdb_types.specs.declared.keys.Dbkey.{Dbkey}
 use Rattle.rdb_types.specs.declared.keys.Line.{Line}
 use Rattle.rdb_outside.specs.Disk.{View, Pending}
-use Rattle.stable_lines.specs.Slots.{Undo}
-use Rattle.stable_lines.specs.Progress.{Open, Flight}
-use Rattle.line_moves.specs.declared.places.Place.{Place}
-use Rattle.line_moves.specs.Changes.{IsForArea, IsPlaceOf}
-use Rattle.line_moves.specs.Lines.{ChangedLines}
-use Rattle.line_seat.specs.declared.commit.GroupPlace.{GroupPlace}
-use Rattle.line_seat.specs.declared.commit.CommitStage.{CommitStage}
-use Rattle.line_seat.specs.declared.commit.CommitStage.TheVariants.{Changing, Imaging, Gathering, Sealing, Landing, Committed}
-use Rattle.line_seat.specs.Seats.{secured}
-use Rattle.line_seat.specs.Stages.{IsFurther, IsNextStage}
-use Rattle.line_seat.specs.Groups.{AreOfEntries, IsCommitting}
+use Rattle.disk_seats.specs.stable_lines.Slots.{Undo}
+use Rattle.disk_seats.specs.stable_lines.Progress.{Open, Flight}
+use Rattle.disk_seats.specs.line_moves.declared.places.Place.{Place}
+use Rattle.disk_seats.specs.line_moves.Changes.{IsForArea, IsPlaceOf}
+use Rattle.disk_seats.specs.line_moves.Lines.{ChangedLines}
+use Rattle.disk_seats.specs.line_seat.declared.commit.GroupPlace.{GroupPlace}
+use Rattle.disk_seats.specs.line_seat.declared.commit.CommitStage.{CommitStage}
+use Rattle.disk_seats.specs.line_seat.declared.commit.CommitStage.TheVariants.{Changing, Imaging, Gathering, Sealing, Landing, Committed}
+use Rattle.disk_seats.specs.line_seat.Seats.{secured}
+use Rattle.disk_seats.specs.line_seat.Stages.{IsFurther, IsNextStage}
+use Rattle.disk_seats.specs.line_seat.Groups.{AreOfEntries, IsCommitting}
 use Rattle.disk_seats.specs.Ledgers.{changing, Commit, Ledger, all_stable, this_commit, new_commit, taken_up, held_up, behind_step}
 use Rattle.disk_seats.specs.Members.{AreOwned, IsOneArea}
 use Rattle.member_steps.specs.declared.committing.CommitTurn.{CommitTurn}

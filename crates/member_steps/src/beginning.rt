@@ -5,13 +5,13 @@ ghost use Rattle.rdb_outside.specs.Causes.{Rose};
 ghost use Rattle.rdb_outside.specs.Disk.{Pending, LeavesOnly, OnlyReads, IsStable};
 ghost use Rattle.root_file.specs.Root.{IsRoot, IsAllowed};
 ghost use Rattle.new_database.specs.Maker.{root_file as root_named};
-ghost use Rattle.stable_lines.specs.Progress.{Progress};
-ghost use Rattle.stable_lines.specs.Facts.{Facts, StandsAs};
+ghost use Rattle.disk_seats.specs.stable_lines.Progress.{Progress};
+ghost use Rattle.disk_seats.specs.stable_lines.Facts.{Facts, StandsAs};
 ghost use Rattle.disk_seats.specs.Ledgers.{new_ledger};
 ghost use Rattle.disk_seats.specs.Members.{LedgerFacts};
 ghost use Rattle.member_steps.specs.Beginning.{IsRaised, HasCeiling, IsAtRest};
 
-use line_moves::{make_stable, root_file, write_root};
+use disk_seats::line_moves::{make_stable, root_file, write_root};
 use line_store::Fault;
 use rdb_outside::Disk;
 use root_file::{Root, read_root};

@@ -3,19 +3,19 @@ ghost use Rattle.std.specs.Prelude.{◌≡◌, ◌≢◌, ◌+◌, ◌≤◌, �
 ghost use Rattle.rdb_types.specs.declared.file.FileId.{FileId as File};
 ghost use Rattle.rdb_outside.specs.Causes.{Rose};
 ghost use Rattle.rdb_outside.specs.Disk.{OnlyReads};
-ghost use Rattle.stable_lines.specs.Slots.{IsMember, ruj_file, line_at, named, Undo};
-ghost use Rattle.stable_lines.specs.Image.{IsNoneOf};
-ghost use Rattle.stable_lines.specs.Progress.{Open};
-ghost use Rattle.line_moves.specs.Calls.{OnlyWrites};
-ghost use Rattle.line_moves.specs.Changes.{IsPlaceOf};
+ghost use Rattle.disk_seats.specs.stable_lines.Slots.{IsMember, ruj_file, line_at, named, Undo};
+ghost use Rattle.disk_seats.specs.stable_lines.Image.{IsNoneOf};
+ghost use Rattle.disk_seats.specs.stable_lines.Progress.{Open};
+ghost use Rattle.disk_seats.specs.line_moves.Calls.{OnlyWrites};
+ghost use Rattle.disk_seats.specs.line_moves.Changes.{IsPlaceOf};
 ghost use Rattle.disk_seats.specs.Ledgers.{Ledger, changing, broken, stands_as};
 ghost use Rattle.disk_seats.specs.Members.{LedgerFacts, IsLeftTo};
 ghost use Rattle.member_steps.specs.declared.journalling.Journalled.TheVariants.{Header};
 ghost use Rattle.member_steps.specs.Journalling.{ledger_with};
 
+use disk_seats::line_moves::Place;
+use disk_seats::line_opening::named_by;
 use disk_seats::{journal, name_header};
-use line_moves::Place;
-use line_opening::named_by;
 use line_store::Fault;
 use rdb_outside::Disk;
 use rdb_types::{Dbkey, Tsn};

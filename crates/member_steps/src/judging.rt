@@ -4,13 +4,13 @@ ghost use Rattle.rdb_outside.specs.Causes.{Rose};
 ghost use Rattle.rdb_outside.specs.Disk.{OnlyReads};
 ghost use Rattle.journal_scan.specs.Standing.{what_stands};
 ghost use Rattle.new_database.specs.Maker.{aij_file as aij_named};
-ghost use Rattle.stable_lines.specs.Journal.{commit_of};
-ghost use Rattle.stable_lines.specs.Progress.{Flight, Progress};
-ghost use Rattle.line_moves.specs.Changes.{IsCommitOf};
+ghost use Rattle.disk_seats.specs.stable_lines.Journal.{commit_of};
+ghost use Rattle.disk_seats.specs.stable_lines.Progress.{Flight, Progress};
+ghost use Rattle.disk_seats.specs.line_moves.Changes.{IsCommitOf};
 
 use aij_journal::{AijPart, read_slot};
-use line_moves::aij_file;
-use line_seat::GroupPlace;
+use disk_seats::line_moves::aij_file;
+use disk_seats::line_seat::GroupPlace;
 use rdb_outside::{Disk, Failed};
 
 // Whether a part is the commit of a group with so many lines.

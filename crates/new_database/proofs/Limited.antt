@@ -1,7 +1,7 @@
 -- A new database by its slots is one with those limits.
 use Rattle.std.specs.Prelude.{ℕ, List}
 use Rattle.std.proofs.Common.{sym, subst, inl, inr, ⊎_elim}
-use Rattle.rdb_types.specs.declared.keys.Limits.{Limits}
+use Rattle.rdb_outside.specs.rdb_types.declared.keys.Limits.{Limits}
 use Rattle.rdb_outside.specs.Disk.{Image}
 use Rattle.root_file.specs.Root.{IsRoot}
 use Rattle.aij_journal.specs.Header.{IsHeader}

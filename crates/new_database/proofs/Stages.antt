@@ -1,8 +1,8 @@
 -- What a disk may leave, call by call, while a database is made.
 use Rattle.std.specs.Prelude.{ℕ, ◌≡◌, ◌≢◌, ◌⊎◌, IsTrue, List, Result, length, replicate, refl}
 use Rattle.std.proofs.Common.{inl, inr, sym, ◌∙◌, ap, subst, ⊎_elim, arith}
-use Rattle.rdb_types.specs.declared.file.FileId.{FileId}
-use Rattle.rdb_types.specs.declared.file.FileKind.TheVariants.{Root, Aij}
+use Rattle.rdb_outside.specs.rdb_types.declared.file.FileId.{FileId}
+use Rattle.rdb_outside.specs.rdb_types.declared.file.FileKind.TheVariants.{Root, Aij}
 use Rattle.rdb_outside.specs.Disk.{Image, View, LeftNow, Pending, Counts, Keeps, Puts, Adds, IsStable, LeavesOnly, zeros}
 use Rattle.rdb_outside.specs.Moments.{each_slot, started, goes_on, weaker}
 use Rattle.new_database.specs.Maker.{root_file, aij_file, IsNone, IsUnmade, HasRoot, IsNew, IsNewOrNone, MakesNone}

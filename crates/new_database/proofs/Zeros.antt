@@ -2,10 +2,10 @@
 use Rattle.std.specs.Prelude.{ℕ, ◌≡◌, ◌≤◌, take, replicate}
 use Rattle.std.proofs.Common.{ap, arith, ◌∙◌}
 use Rattle.std.proofs.lemmas.List.{take-replicate}
-use Rattle.rdb_types.specs.declared.file.FileId.{FileId}
-use Rattle.rdb_types.specs.declared.file.FileKind.{FileKind}
-use Rattle.rdb_types.specs.declared.file.FileKind.TheVariants.{Root, Area, Snap, Ruj, Aij, Backup, AijBackup}
-use Rattle.rdb_types.specs.File.{bytes_of_kind, slot_bytes}
+use Rattle.rdb_outside.specs.rdb_types.declared.file.FileId.{FileId}
+use Rattle.rdb_outside.specs.rdb_types.declared.file.FileKind.{FileKind}
+use Rattle.rdb_outside.specs.rdb_types.declared.file.FileKind.TheVariants.{Root, Area, Snap, Ruj, Aij, Backup, AijBackup}
+use Rattle.rdb_outside.specs.rdb_types.File.{bytes_of_kind, slot_bytes}
 use Rattle.rdb_outside.specs.Disk.{zeros}
 
 kind_fits : (kind : FileKind) → bytes_of_kind kind ≤ 1024

@@ -1,7 +1,7 @@
 -- What a new database is.
 use Rattle.std.specs.Prelude.{ℕ, ◌≡◌, ◌≢◌, ◌⊎◌, ◌≤◌, IsTrue, List}
-use Rattle.rdb_types.specs.declared.file.FileId.{FileId}
-use Rattle.rdb_types.specs.declared.file.FileKind.TheVariants.{Root, Aij}
+use Rattle.rdb_outside.specs.rdb_types.declared.file.FileId.{FileId}
+use Rattle.rdb_outside.specs.rdb_types.declared.file.FileKind.TheVariants.{Root, Aij}
 use Rattle.rdb_outside.specs.Disk.{Image, View, LeftNow, LeavesOnly, zeros}
 
 abbrev pub root_file : FileId

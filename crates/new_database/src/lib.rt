@@ -4,5 +4,7 @@
 mod maker;
 mod new;
 
+pub use aij_journal;
 pub use maker::NewFault;
 pub use new::make_new;
+pub use root_file;

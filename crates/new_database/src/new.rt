@@ -10,7 +10,7 @@ use crate::NewFault;
 use crate::maker::make;
 use aij_journal::put_header;
 use rdb_outside::Disk;
-use rdb_types::Limits;
+use rdb_outside::rdb_types::Limits;
 use root_file::{Root, put_root};
 
 fn new_root(limits: Limits) -> Root

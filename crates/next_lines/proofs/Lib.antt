@@ -1,2 +1,2 @@
-pub use Rattle.partial_backup.proofs as partial_backup
+pub use Rattle.partial_backup.proofs as of_partial_backup
 pub mod Leading

@@ -1,4 +1,4 @@
-pub use Rattle.disk_store.proofs as disk_store
+pub use Rattle.disk_store.proofs as of_disk_store
 pub mod Free
 pub mod Fresh
 pub mod TakenPages

@@ -8,3 +8,4 @@ mod tests;
 
 pub use entries::Entries;
 pub use key::Key;
+pub use rdb_types;

@@ -4,10 +4,10 @@ use Rattle.rdb_outside.specs.Disk.{Image}
 use Rattle.rdb_page.specs.Page.{IsUnused}
 use Rattle.area_files.specs.Areas.{IsDataPage, IsSpacePage, space_page_of}
 use Rattle.space_pages.specs.Space.{owner_of}
-use Rattle.stable_lines.specs.Slots.{area_file}
+use Rattle.database_opening.specs.stable_lines.Slots.{area_file}
 use Rattle.database_opening.specs.Owners.{owner_said}
-use Rattle.line_moves.proofs.PageWrite.{space_apart}
-use Rattle.line_moves.proofs.Putting.{nat_cases}
+use Rattle.database_opening.proofs.of_line_moves.PageWrite.{space_apart}
+use Rattle.database_opening.proofs.of_line_moves.Putting.{nat_cases}
 use Rattle.page_table.specs.declared.uses.PageUse.{PageUse}
 use Rattle.page_table.specs.Pages.{Pages, use_of, Puts}
 use Rattle.page_table.specs.Reading.{SaysUse, IsEntryOf, IsTableOf}

@@ -9,14 +9,14 @@ use Rattle.rdb_types.specs.File.{slot_bytes}
 use Rattle.rdb_outside.specs.Disk.{Image}
 use Rattle.rdb_page.specs.Page.{IsOwner, lines_of}
 use Rattle.area_files.specs.Areas.{IsDataPage}
-use Rattle.stable_lines.specs.Slots.{area_file, owner_at, has_place, line_on, line_at}
-use Rattle.stable_lines.specs.Kept.{IsWellFormed}
-use Rattle.stable_lines.proofs.Never.{zeros_owner}
-use Rattle.line_moves.specs.declared.places.Place.{Place}
-use Rattle.line_moves.specs.Changes.{IsPlaceOf}
-use Rattle.line_moves.proofs.KeyPlaces.{area_is, some_area, place_content}
-use Rattle.line_moves.proofs.Putting.{place_says}
-use Rattle.line_moves.proofs.Reading.{line_none}
+use Rattle.database_opening.specs.stable_lines.Slots.{area_file, owner_at, has_place, line_on, line_at}
+use Rattle.database_opening.specs.stable_lines.Kept.{IsWellFormed}
+use Rattle.database_opening.proofs.of_stable_lines.Never.{zeros_owner}
+use Rattle.database_opening.specs.line_moves.declared.places.Place.{Place}
+use Rattle.database_opening.specs.line_moves.Changes.{IsPlaceOf}
+use Rattle.database_opening.proofs.of_line_moves.KeyPlaces.{area_is, some_area, place_content}
+use Rattle.database_opening.proofs.of_line_moves.Putting.{place_says}
+use Rattle.database_opening.proofs.of_line_moves.Reading.{line_none}
 use Rattle.database_opening.specs.Owners.{owner_said}
 use Rattle.page_table.specs.declared.uses.PageUse.{PageUse}
 use Rattle.page_table.specs.Pages.{Pages, nobodys, use_of, is_present, has_image, IsUsedLine}

@@ -10,10 +10,10 @@ use Rattle.rdb_page.specs.declared.head.Head.{Head}
 use Rattle.rdb_page.specs.Page.{IsOwner, IsUnused, StandsAs, class_at, lines_of}
 use Rattle.rdb_page.specs.Lines.{line_place, never}
 use Rattle.area_files.specs.Areas.{IsPage}
-use Rattle.stable_lines.specs.Slots.{owner_at, has_place, said_at, line_on}
-use Rattle.stable_lines.proofs.Never.{nothing_on, zeros_owner, little_zeros, zero_behind}
-use Rattle.line_moves.proofs.Reading.{owner_is, class_is}
-use Rattle.line_moves.proofs.Spots.{never_past}
+use Rattle.database_opening.specs.stable_lines.Slots.{owner_at, has_place, said_at, line_on}
+use Rattle.database_opening.proofs.of_stable_lines.Never.{nothing_on, zeros_owner, little_zeros, zero_behind}
+use Rattle.database_opening.proofs.of_line_moves.Reading.{owner_is, class_is}
+use Rattle.database_opening.proofs.of_line_moves.Spots.{never_past}
 use Rattle.page_table.specs.Pages.{nobodys, no_lines}
 use Rattle.page_table.specs.Reading.{line_of, SaysUse}
 

@@ -6,7 +6,7 @@ use Rattle.rdb_page.specs.Whole.{IsPageOf}
 use Rattle.rdb_outside.specs.Disk.{Image}
 use Rattle.area_files.specs.Areas.{IsPage, IsDataPage, IsSpacePage}
 use Rattle.space_pages.specs.Space.{IsSpace}
-use Rattle.stable_lines.specs.Slots.{area_file, owner_at, line_on}
+use Rattle.database_opening.specs.stable_lines.Slots.{area_file, owner_at, line_on}
 use Rattle.database_opening.specs.Owners.{owner_said}
 use Rattle.page_table.specs.declared.uses.PageUse.{PageUse}
 use Rattle.page_table.specs.Pages.{Pages, nobodys, use_of, state_in}

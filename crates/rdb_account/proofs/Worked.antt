@@ -1,28 +1,28 @@
 -- Worked accounts that are legal.
 use Rattle.std.proofs.Common.{arith}
 use Rattle.std.specs.Prelude.{refl, ℕ, ◌==◌, if◌then◌else◌, Bool, true, false, pos, List, [], ◌∷◌, None, codes}
-use Rattle.rdb_types.specs.declared.values.Value.TheVariants.{Number}
-use Rattle.rdb_types.specs.declared.values.Scaled.{Scaled}
-use Rattle.rdb_types.specs.declared.keys.Dbkey.{Dbkey}
-use Rattle.rdb_types.specs.declared.values.FieldType.{FieldType}
-use Rattle.rdb_types.specs.declared.values.DataType.TheVariants as data_type
-use Rattle.rdo_ast.specs.declared.syntax.Comparison.TheVariants as by
-use Rattle.rdo_ast.specs.declared.syntax.Arithmetic.TheVariants.{Plus}
-use Rattle.rdo_ast.specs.declared.syntax.Reservation.{Reservation}
-use Rattle.rdo_ast.specs.declared.syntax.Share.TheVariants.{Shared, Protected}
-use Rattle.rdo_ast.specs.declared.syntax.DefinedType.TheVariants.{Own}
-use Rattle.rdo_ast.specs.declared.reply.Reply.{Reply}
-use Rattle.rdo_ast.specs.declared.reply.Reply.TheVariants as r
-use Rattle.rdo_ast.specs.declared.reply.Standing.{Standing}
-use Rattle.rdo_ast.specs.declared.reply.Standing.TheVariants.{ReadOnly, ReadWrite}
-use Rattle.rdo_ast.specs.Tree.{Name, Expression, number, field, chain, no_operation, operation, compare, no_test, test, no_conjunction, conjunction, With, without_condition, with_condition, ranging, Act, store, for_each, print, value, all_fields, modify, act, no_act, Uttered, said, start_read_only, start_read_write, commit, rollback, perform, define_relation}
+use Rattle.lock_needs.specs.rdb_types.declared.values.Value.TheVariants.{Number}
+use Rattle.lock_needs.specs.rdb_types.declared.values.Scaled.{Scaled}
+use Rattle.lock_needs.specs.rdb_types.declared.keys.Dbkey.{Dbkey}
+use Rattle.lock_needs.specs.rdb_types.declared.values.FieldType.{FieldType}
+use Rattle.lock_needs.specs.rdb_types.declared.values.DataType.TheVariants as data_type
+use Rattle.rdb_meaning.specs.rdo_ast.declared.syntax.Comparison.TheVariants as by
+use Rattle.rdb_meaning.specs.rdo_ast.declared.syntax.Arithmetic.TheVariants.{Plus}
+use Rattle.rdb_meaning.specs.rdo_ast.declared.syntax.Reservation.{Reservation}
+use Rattle.rdb_meaning.specs.rdo_ast.declared.syntax.Share.TheVariants.{Shared, Protected}
+use Rattle.rdb_meaning.specs.rdo_ast.declared.syntax.DefinedType.TheVariants.{Own}
+use Rattle.rdb_meaning.specs.rdo_ast.declared.reply.Reply.{Reply}
+use Rattle.rdb_meaning.specs.rdo_ast.declared.reply.Reply.TheVariants as r
+use Rattle.rdb_meaning.specs.rdo_ast.declared.reply.Standing.{Standing}
+use Rattle.rdb_meaning.specs.rdo_ast.declared.reply.Standing.TheVariants.{ReadOnly, ReadWrite}
+use Rattle.rdb_meaning.specs.rdo_ast.Tree.{Name, Expression, number, field, chain, no_operation, operation, compare, no_test, test, no_conjunction, conjunction, With, without_condition, with_condition, ranging, Act, store, for_each, print, value, all_fields, modify, act, no_act, Uttered, said, start_read_only, start_read_write, commit, rollback, perform, define_relation}
 use Rattle.rdb_meaning.specs.declared.tables.Tables.{Tables}
 use Rattle.rdb_meaning.specs.Contents.{no_tables}
 use Rattle.rdb_meaning.specs.Numbers.{numeral}
-use Rattle.vms_queues.specs.declared.lock_mode.Mode.TheVariants.{CR, CW, PR, PW, EX}
-use Rattle.rdb_types.specs.declared.session.Cause.TheVariants as cause
-use Rattle.rdb_types.specs.declared.node.Level.TheVariants as level
-use Rattle.rdb_types.specs.declared.node.Node.{Node}
+use Rattle.lock_needs.specs.vms_queues.declared.lock_mode.Mode.TheVariants.{CR, CW, PR, PW, EX}
+use Rattle.lock_needs.specs.rdb_types.declared.session.Cause.TheVariants as cause
+use Rattle.lock_needs.specs.rdb_types.declared.node.Level.TheVariants as level
+use Rattle.lock_needs.specs.rdb_types.declared.node.Node.{Node}
 use Rattle.rdb_account.specs.Events.{Event, Began, Wanted, Got, Demoted, Said, Committed, RolledBack, Died, Recovered, need}
 use Rattle.rdb_account.specs.Places.{Opening}
 use Rattle.rdb_account.specs.Legal.{IsLegal}

@@ -2,21 +2,21 @@
 use Rattle.std.specs.Prelude.{◌≡◌, ℕ, Bool, true, false, not, ◌&&◌, ◌||◌, ◌==◌, List, [], ◌∷◌, Option, Some, None}
 use Rattle.std.specs.List.{list_all, list_any}
 use Rattle.std.specs.FinMap.Entries.{find}
-use Rattle.rdb_types.specs.declared.node.Level.TheVariants as level
-use Rattle.rdb_types.specs.declared.node.Node.{Node}
-use Rattle.rdo_ast.specs.declared.syntax.Reservation.{Reservation}
-use Rattle.rdo_ast.specs.declared.syntax.Share.{Share}
-use Rattle.rdo_ast.specs.declared.syntax.Share.TheVariants.{Shared, Protected, Exclusive}
-use Rattle.rdo_ast.specs.Tree.{Command, Uttered, said, syntax_fault, invoke, start_read_only, start_read_write, commit, rollback, finish, perform, define_field, define_relation, define_index, delete_relation, delete_index}
+use Rattle.lock_needs.specs.rdb_types.declared.node.Level.TheVariants as level
+use Rattle.lock_needs.specs.rdb_types.declared.node.Node.{Node}
+use Rattle.rdb_meaning.specs.rdo_ast.declared.syntax.Reservation.{Reservation}
+use Rattle.rdb_meaning.specs.rdo_ast.declared.syntax.Share.{Share}
+use Rattle.rdb_meaning.specs.rdo_ast.declared.syntax.Share.TheVariants.{Shared, Protected, Exclusive}
+use Rattle.rdb_meaning.specs.rdo_ast.Tree.{Command, Uttered, said, syntax_fault, invoke, start_read_only, start_read_write, commit, rollback, finish, perform, define_field, define_relation, define_index, delete_relation, delete_index}
 use Rattle.rdb_meaning.specs.declared.tables.Relation.{Relation}
 use Rattle.rdb_meaning.specs.declared.tables.Tables.{Tables}
-use Rattle.rdb_types.specs.Order.{chars_order}
+use Rattle.lock_needs.specs.rdb_types.Order.{chars_order}
 use Rattle.rdb_meaning.specs.Contents.{relation_named, indexes_on, new_index_area}
 use Rattle.rdb_meaning.specs.Checks.{Refusal, Use, use_of, act_uses}
 use Rattle.rdb_meaning.specs.Meaning.{index_uses}
-use Rattle.vms_queues.specs.declared.lock_mode.Mode.{Mode}
-use Rattle.vms_queues.specs.declared.lock_mode.Mode.TheVariants.{CR, CW, PR, PW, EX}
-use Rattle.vms_queues.specs.Modes.{at_most}
+use Rattle.lock_needs.specs.vms_queues.declared.lock_mode.Mode.{Mode}
+use Rattle.lock_needs.specs.vms_queues.declared.lock_mode.Mode.TheVariants.{CR, CW, PR, PW, EX}
+use Rattle.lock_needs.specs.vms_queues.Modes.{at_most}
 use Rattle.lock_needs.specs.declared.need.Need.{Need}
 use Rattle.lock_needs.specs.Nodes.{same_node}
 use Rattle.lock_needs.specs.Needs.{conflict}

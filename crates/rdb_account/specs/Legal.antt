@@ -1,15 +1,15 @@
 -- Which accounts are legal: what may happen at a place, event by event.
 use Rattle.std.specs.Prelude.{◌≡◌, ◌≤◌, ℕ, Bool, true, false, not, ◌&&◌, ◌||◌, ◌==◌, List, [], ◌∷◌, length, Option, Some, None}
-use Rattle.rdo_ast.specs.declared.reply.Reply.{Reply}
-use Rattle.rdo_ast.specs.declared.reply.Reply.TheVariants as r
-use Rattle.rdo_ast.specs.declared.reply.Standing.{Standing}
-use Rattle.rdo_ast.specs.declared.reply.Standing.TheVariants.{Closed, ReadOnly}
-use Rattle.rdo_ast.specs.Tree.{Uttered, said, commit, rollback}
+use Rattle.rdb_meaning.specs.rdo_ast.declared.reply.Reply.{Reply}
+use Rattle.rdb_meaning.specs.rdo_ast.declared.reply.Reply.TheVariants as r
+use Rattle.rdb_meaning.specs.rdo_ast.declared.reply.Standing.{Standing}
+use Rattle.rdb_meaning.specs.rdo_ast.declared.reply.Standing.TheVariants.{Closed, ReadOnly}
+use Rattle.rdb_meaning.specs.rdo_ast.Tree.{Uttered, said, commit, rollback}
 use Rattle.rdb_meaning.specs.declared.tables.Tables.{Tables}
 use Rattle.rdb_meaning.specs.Meaning.{meaning}
 use Rattle.rdb_meaning.specs.Usual.{is_refusal_of_means}
-use Rattle.rdb_types.specs.declared.session.Cause.{Cause}
-use Rattle.rdb_types.specs.declared.session.Cause.TheVariants as cause
+use Rattle.lock_needs.specs.rdb_types.declared.session.Cause.{Cause}
+use Rattle.lock_needs.specs.rdb_types.declared.session.Cause.TheVariants as cause
 use Rattle.rdb_account.specs.Events.{Event, Began, Wanted, Got, Demoted, Said, Committed, RolledBack, Died, Recovered}
 use Rattle.std.specs.List.{list_all}
 use Rattle.lock_needs.specs.declared.need.Need.{Need}

@@ -1,22 +1,22 @@
 -- What is known at a place of an account: a machine that reads the events, one after another.
 use Rattle.std.specs.Prelude.{◌≡◌, ℕ, Bool, true, false, not, ◌&&◌, ◌||◌, ◌==◌, ◌+◌, ◌-◌, if◌then◌else◌, List, [], ◌∷◌, ◌++◌, length, map, Option, Some, None, slice_get}
 use Rattle.std.specs.List.{list_any, filter}
-use Rattle.rdb_types.specs.declared.keys.Dbkey.{Dbkey}
-use Rattle.rdo_ast.specs.declared.reply.Reply.{Reply}
-use Rattle.rdo_ast.specs.declared.reply.Reply.TheVariants as r
-use Rattle.rdo_ast.specs.declared.reply.Standing.{Standing}
-use Rattle.rdo_ast.specs.declared.reply.Standing.TheVariants.{Closed, ReadOnly, ReadWrite}
-use Rattle.rdo_ast.specs.Tree.{Uttered, said, start_read_only, start_read_write, perform}
+use Rattle.lock_needs.specs.rdb_types.declared.keys.Dbkey.{Dbkey}
+use Rattle.rdb_meaning.specs.rdo_ast.declared.reply.Reply.{Reply}
+use Rattle.rdb_meaning.specs.rdo_ast.declared.reply.Reply.TheVariants as r
+use Rattle.rdb_meaning.specs.rdo_ast.declared.reply.Standing.{Standing}
+use Rattle.rdb_meaning.specs.rdo_ast.declared.reply.Standing.TheVariants.{Closed, ReadOnly, ReadWrite}
+use Rattle.rdb_meaning.specs.rdo_ast.Tree.{Uttered, said, start_read_only, start_read_write, perform}
 use Rattle.rdb_meaning.specs.declared.tables.Tables.{Tables}
 use Rattle.rdb_meaning.specs.Checks.{is_retrieval}
 use Rattle.rdb_meaning.specs.Meaning.{Meaning, means, meaningless, meaning}
 use Rattle.rdb_meaning.specs.Usual.{is_refusal_of_means}
-use Rattle.vms_queues.specs.declared.lock_mode.Mode.TheVariants.{EX}
-use Rattle.vms_queues.specs.Modes.{at_most}
-use Rattle.rdb_types.specs.declared.session.Cause.{Cause}
-use Rattle.rdb_types.specs.declared.node.Level.{Level}
-use Rattle.rdb_types.specs.declared.node.Level.TheVariants as level
-use Rattle.rdb_types.specs.declared.node.Node.{Node}
+use Rattle.lock_needs.specs.vms_queues.declared.lock_mode.Mode.TheVariants.{EX}
+use Rattle.lock_needs.specs.vms_queues.Modes.{at_most}
+use Rattle.lock_needs.specs.rdb_types.declared.session.Cause.{Cause}
+use Rattle.lock_needs.specs.rdb_types.declared.node.Level.{Level}
+use Rattle.lock_needs.specs.rdb_types.declared.node.Level.TheVariants as level
+use Rattle.lock_needs.specs.rdb_types.declared.node.Node.{Node}
 use Rattle.lock_needs.specs.declared.need.Need.{Need}
 use Rattle.rdb_account.specs.Events.{Event, Began, Wanted, Got, Demoted, Said, Committed, RolledBack, Died, Recovered}
 use Rattle.lock_needs.specs.Nodes.{same_node}

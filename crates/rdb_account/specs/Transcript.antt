@@ -1,13 +1,13 @@
 -- What is written of a run.
 use Rattle.std.specs.Prelude.{ℕ, ◌-◌, ◌==◌, nat_le, if◌then◌else◌, ℤ, pos, negsuc, unsigned_abs, List, [], ◌∷◌, ◌++◌, length, take, drop, replicate, codes, decimal}
 use Rattle.std.specs.List.{flat_map}
-use Rattle.rdb_types.specs.declared.values.Value.{Value}
-use Rattle.rdb_types.specs.declared.values.Value.TheVariants.{Missing, Number, Text}
-use Rattle.rdb_types.specs.declared.values.Scaled.{Scaled}
-use Rattle.rdb_types.specs.declared.session.Cause.{Cause}
-use Rattle.rdb_types.specs.declared.session.Cause.TheVariants as cause
-use Rattle.rdo_ast.specs.declared.reply.Reply.{Reply}
-use Rattle.rdo_ast.specs.declared.reply.Reply.TheVariants as r
+use Rattle.lock_needs.specs.rdb_types.declared.values.Value.{Value}
+use Rattle.lock_needs.specs.rdb_types.declared.values.Value.TheVariants.{Missing, Number, Text}
+use Rattle.lock_needs.specs.rdb_types.declared.values.Scaled.{Scaled}
+use Rattle.lock_needs.specs.rdb_types.declared.session.Cause.{Cause}
+use Rattle.lock_needs.specs.rdb_types.declared.session.Cause.TheVariants as cause
+use Rattle.rdb_meaning.specs.rdo_ast.declared.reply.Reply.{Reply}
+use Rattle.rdb_meaning.specs.rdo_ast.declared.reply.Reply.TheVariants as r
 use Rattle.rdb_account.specs.declared.event.Event.{Event as Declared}
 use Rattle.rdb_account.specs.Events.{Event, Began, Wanted, Got, Demoted, Said, Committed, RolledBack, Died, Recovered, event_of}
 

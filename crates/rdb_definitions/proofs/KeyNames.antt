@@ -5,9 +5,9 @@ use Rattle.std.proofs.lemmas.List.Sorted.{IsPermutation-reverse, list_any-IsPerm
 use Rattle.rdb_types.specs.declared.values.Field.{Field}
 use Rattle.rdo_ast.specs.declared.reply.Reply.TheVariants.{Exists}
 use Rattle.rdo_ast.specs.Tree.{Name}
-use Rattle.rdb_meaning.specs.Contents.{same_name, place_of}
-use Rattle.rdb_meaning.specs.Checks.{or_else, needs_some}
-use Rattle.rdb_meaning.specs.Defining.{is_among, index_fields_names}
+use Rattle.rdb_checks.specs.rdb_meaning.Contents.{same_name, place_of}
+use Rattle.rdb_checks.specs.rdb_meaning.Checks.{or_else, needs_some}
+use Rattle.rdb_checks.specs.rdb_meaning.Defining.{is_among, index_fields_names}
 
 is_among-reverse : (n : Name) (ns : List Name) → is_among n (reverse ns) ≡ is_among n ns
 is_among-reverse n ns = sym (list_any-IsPermutation (same_name n) ns (reverse ns) (IsPermutation-reverse ns))

@@ -12,7 +12,7 @@ use Rattle.std.proofs.lemmas.Map.Text.{is_eq-slice_cmp}
 use Rattle.rdb_types.specs.OrderLaws.{chars_total}
 use Rattle.rdo_ast.specs.Tree.{Name}
 use Rattle.rdb_types.specs.Order.{chars_order}
-use Rattle.rdb_meaning.specs.Defining.{without}
+use Rattle.rdb_checks.specs.rdb_meaning.Defining.{without}
 
 -- names that tie are those of the same bytes
 pub filter_tied : {A : Type 0} (n : Name) (es : List (Name × A)) → filter (λ e. not (is_eq (chars_order n e.0))) es ≡ without n es

@@ -6,7 +6,7 @@ use Rattle.std.specs.Ordering.{is_eq, ordering_then}
 use Rattle.std.proofs.lemmas.List.{at_drop_more}
 use Rattle.rdb_types.specs.declared.values.Value.TheVariants.{Missing}
 use Rattle.rdb_types.specs.Order.{value_order, row_order}
-use Rattle.rdb_meaning.specs.Contents.{Row, key_of}
+use Rattle.rdb_checks.specs.rdb_meaning.Contents.{Row, key_of}
 
 is_eq_then : (first rest : Ordering) → is_eq (ordering_then first rest) ≡ (is_eq first && is_eq rest)
 is_eq_then Less rest = refl

@@ -1,7 +1,7 @@
 -- What an answer says of a definition. Want of memory leaves the tables, and says no more.
 use Rattle.std.specs.Prelude.{◌≡◌, Result, Ok, Err, Some, None}
-use Rattle.rdb_meaning.specs.declared.tables.Tables.{Tables}
-use Rattle.rdb_meaning.specs.Checks.{Refusal}
+use Rattle.rdb_checks.specs.rdb_meaning.declared.tables.Tables.{Tables}
+use Rattle.rdb_checks.specs.rdb_meaning.Checks.{Refusal}
 use Rattle.rdb_checks.specs.declared.stop.Stop.{Stop}
 use Rattle.rdb_checks.specs.declared.stop.Stop.TheVariants.{Refused, Memory}
 

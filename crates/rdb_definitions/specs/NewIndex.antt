@@ -1,10 +1,10 @@
 -- The index that a definition brings.
 use Rattle.rdo_ast.specs.declared.syntax.IndexDefinition.{IndexDefinition}
-use Rattle.rdb_meaning.specs.declared.tables.Index.{Index}
-use Rattle.rdb_meaning.specs.declared.tables.Tables.{Tables}
-use Rattle.rdb_meaning.specs.Contents.{relation_named, fields_of, new_index_area}
-use Rattle.rdb_meaning.specs.Defining.{positions_of}
-use Rattle.rdb_meaning.specs.Execution.{area_of}
+use Rattle.rdb_checks.specs.rdb_meaning.declared.tables.Index.{Index}
+use Rattle.rdb_checks.specs.rdb_meaning.declared.tables.Tables.{Tables}
+use Rattle.rdb_checks.specs.rdb_meaning.Contents.{relation_named, fields_of, new_index_area}
+use Rattle.rdb_checks.specs.rdb_meaning.Defining.{positions_of}
+use Rattle.rdb_checks.specs.rdb_meaning.Execution.{area_of}
 
 abbrev pub new_index : IndexDefinition → Tables → Index
 new_index d t =

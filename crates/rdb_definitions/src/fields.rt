@@ -1,10 +1,10 @@
 ghost use Rattle.std.specs.Prelude.{◌≡◌, [], map, IfOk};
-ghost use Rattle.rdb_meaning.specs.Defining.{field_names, with_field, is_among, type_names, fields_names, type_of, new_field};
+ghost use Rattle.rdb_checks.specs.rdb_meaning.Defining.{field_names, with_field, is_among, type_names, fields_names, type_of, new_field};
 ghost use Rattle.rdb_checks.specs.Answers.{Finds};
 ghost use Rattle.rdb_definitions.specs.Answers.{Defines};
 
+use rdb_checks::rdb_meaning::{Tables, same_name};
 use rdb_checks::{Stop, exists, no_such};
-use rdb_meaning::{Tables, same_name};
 use rdb_types::{Chars, Copied, DataType, Field, FieldType, Fields, Items, NoMemory};
 use rdo_ast::syntax::{DefinedType, FieldDefinition};
 use std::alloc::Global;

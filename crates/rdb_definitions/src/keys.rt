@@ -1,10 +1,10 @@
 ghost use Rattle.std.specs.Prelude.{◌≡◌, nat_lt, slice_index_or, IfOk};
 ghost use Rattle.std.specs.Ordering.{is_eq};
 ghost use Rattle.rdb_types.specs.Order.{value_order, row_order};
-ghost use Rattle.rdb_meaning.specs.Contents.{key_of, has_key};
-ghost use Rattle.rdb_meaning.specs.Defining.{positions_of, longest_at, longest_key, keys_repeat};
+ghost use Rattle.rdb_checks.specs.rdb_meaning.Contents.{key_of, has_key};
+ghost use Rattle.rdb_checks.specs.rdb_meaning.Defining.{positions_of, longest_at, longest_key, keys_repeat};
 
-use rdb_meaning::{FieldAt, field_of, same_name};
+use rdb_checks::rdb_meaning::{FieldAt, field_of, same_name};
 use rdb_types::{Chars, Dbkey, Field, Items, NoMemory, Positions, Row, Value};
 use row_sizes::longest_value;
 use std::alloc::Global;

@@ -1,7 +1,7 @@
 ghost use Rattle.std.specs.Prelude.{◌≡◌, OnOk, OnErr};
-ghost use Rattle.rdb_meaning.specs.Contents.{relation_named};
-ghost use Rattle.rdb_meaning.specs.Checks.{needs_some};
-ghost use Rattle.rdb_meaning.specs.Defining.{relation_names, with_relation, without_relation};
+ghost use Rattle.rdb_checks.specs.rdb_meaning.Contents.{relation_named};
+ghost use Rattle.rdb_checks.specs.rdb_meaning.Checks.{needs_some};
+ghost use Rattle.rdb_checks.specs.rdb_meaning.Defining.{relation_names, with_relation, without_relation};
 ghost use Rattle.rdb_checks.specs.Answers.{Finds};
 ghost use Rattle.rdb_definitions.specs.Answers.{Defines};
 
@@ -9,8 +9,8 @@ use crate::areas::{area_of, new_relation_area};
 use crate::fields::{check_fields_names, new_fields};
 use crate::indexes::remove_indexes;
 use ordered_entries::Entries;
+use rdb_checks::rdb_meaning::{Relation, Tables};
 use rdb_checks::{Stop, exists, no_such};
-use rdb_meaning::{Relation, Tables};
 use rdb_types::{Chars, Copied, NoMemory};
 use rdo_ast::syntax::FieldDefinition;
 use std::alloc::Global;

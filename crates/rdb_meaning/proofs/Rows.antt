@@ -1,10 +1,10 @@
 -- Worked scripts, whose replies the definitions compute.
 use Rattle.std.specs.Prelude.{◌≡◌, refl, ℕ, zero, suc, true, false, ℤ, pos, negsuc, List, [], ◌∷◌, Some, None, codes}
-use Rattle.rdb_types.specs.declared.values.Scaled.{Scaled}
-use Rattle.rdb_types.specs.declared.keys.Dbkey.{Dbkey}
-use Rattle.rdb_types.specs.declared.values.FieldType.{FieldType}
-use Rattle.rdb_types.specs.declared.values.DataType.TheVariants as data_type
-use Rattle.rdb_types.specs.declared.values.DataType.TheVariants.{Word, Longword, Quadword}
+use Rattle.ordered_entries.specs.rdb_types.declared.values.Scaled.{Scaled}
+use Rattle.ordered_entries.specs.rdb_types.declared.keys.Dbkey.{Dbkey}
+use Rattle.ordered_entries.specs.rdb_types.declared.values.FieldType.{FieldType}
+use Rattle.ordered_entries.specs.rdb_types.declared.values.DataType.TheVariants as data_type
+use Rattle.ordered_entries.specs.rdb_types.declared.values.DataType.TheVariants.{Word, Longword, Quadword}
 use Rattle.rdo_ast.specs.declared.syntax.Range.{Range}
 use Rattle.rdo_ast.specs.declared.syntax.Clause.TheVariants.{Sorted}
 use Rattle.rdo_ast.specs.declared.syntax.Comparison.TheVariants as by

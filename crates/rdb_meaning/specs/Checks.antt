@@ -1,7 +1,7 @@
 -- What is checked before a statement is done: names in the order of the text, then reservations, then types.
 use Rattle.std.specs.Prelude.{ℕ, Bool, true, false, not, ◌&&◌, ◌||◌, if◌then◌else◌, List, [], ◌∷◌, ◌++◌, map, Option, Some, None}
 use Rattle.std.specs.List.{list_any}
-use Rattle.rdb_types.specs.declared.values.Field.{Field}
+use Rattle.ordered_entries.specs.rdb_types.declared.values.Field.{Field}
 use Rattle.rdo_ast.specs.declared.syntax.Reference.{Reference}
 use Rattle.rdo_ast.specs.declared.syntax.Range.{Range}
 use Rattle.rdo_ast.specs.declared.syntax.Clause.{Clause}

@@ -5,9 +5,9 @@ use Rattle.std.specs.declared.cmp.Ordering.{Ordering}
 use Rattle.std.specs.Ordering.{nat_cmp, int_cmp, is_eq, is_ne, is_lt, is_le, is_gt, is_ge}
 use Rattle.std.specs.Cmp.Lexicographic.{slice_cmp}
 use Rattle.std.specs.Str.{str_to_ascii_uppercase}
-use Rattle.rdb_types.specs.declared.values.Value.{Value}
-use Rattle.rdb_types.specs.declared.values.Value.TheVariants.{Missing, Number, Text}
-use Rattle.rdb_types.specs.declared.values.Scaled.{Scaled}
+use Rattle.ordered_entries.specs.rdb_types.declared.values.Value.{Value}
+use Rattle.ordered_entries.specs.rdb_types.declared.values.Value.TheVariants.{Missing, Number, Text}
+use Rattle.ordered_entries.specs.rdb_types.declared.values.Scaled.{Scaled}
 use Rattle.rdo_ast.specs.declared.syntax.Comparison.{Comparison}
 use Rattle.rdo_ast.specs.declared.syntax.Comparison.TheVariants as by
 use Rattle.rdb_meaning.specs.Numbers.{Computed, is, overflow, brought}

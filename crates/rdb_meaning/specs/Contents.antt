@@ -4,17 +4,17 @@ use Rattle.std.specs.List.{list_any}
 use Rattle.std.specs.Ordering.{nat_cmp, is_eq}
 use Rattle.std.specs.FinMap.Entries.{find, put}
 use Rattle.std.specs.Str.{bytes_eq}
-use Rattle.rdb_types.specs.declared.values.Value.{Value}
-use Rattle.rdb_types.specs.declared.values.Value.TheVariants.{Missing, Number, Text}
-use Rattle.rdb_types.specs.declared.keys.Dbkey.{Dbkey}
-use Rattle.rdb_types.specs.declared.values.Field.{Field}
-use Rattle.rdb_types.specs.declared.values.FieldType.{FieldType}
+use Rattle.ordered_entries.specs.rdb_types.declared.values.Value.{Value}
+use Rattle.ordered_entries.specs.rdb_types.declared.values.Value.TheVariants.{Missing, Number, Text}
+use Rattle.ordered_entries.specs.rdb_types.declared.keys.Dbkey.{Dbkey}
+use Rattle.ordered_entries.specs.rdb_types.declared.values.Field.{Field}
+use Rattle.ordered_entries.specs.rdb_types.declared.values.FieldType.{FieldType}
 use Rattle.rdo_ast.specs.Tree.{Name}
 use Rattle.rdb_meaning.specs.declared.tables.Relation.{Relation}
 use Rattle.rdb_meaning.specs.declared.tables.Index.{Index}
 use Rattle.rdb_meaning.specs.declared.tables.Tables.{Tables}
 use Rattle.rdb_meaning.specs.Numbers.{is_text_type}
-use Rattle.rdb_types.specs.Order.{row_order, dbkey_order, chars_order}
+use Rattle.ordered_entries.specs.rdb_types.Order.{row_order, dbkey_order, chars_order}
 
 abbrev pub Row : Type 0
 Row = List Value

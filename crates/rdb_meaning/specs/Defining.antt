@@ -2,10 +2,10 @@
 use Rattle.std.specs.Prelude.{ℕ, Bool, false, not, ◌&&◌, ◌||◌, if◌then◌else◌, nat_lt, ◌==◌, List, [], ◌∷◌, ◌++◌, map, filter, sum_by, Option, Some, None}
 use Rattle.std.specs.List.{list_any, filter_map}
 use Rattle.std.specs.FinMap.Entries.{find, put}
-use Rattle.rdb_types.specs.declared.keys.Dbkey.{Dbkey}
-use Rattle.rdb_types.specs.declared.values.Field.{Field}
-use Rattle.rdb_types.specs.declared.values.FieldType.{FieldType}
-use Rattle.rdb_types.specs.declared.values.DataType.TheVariants.{Quadword}
+use Rattle.ordered_entries.specs.rdb_types.declared.keys.Dbkey.{Dbkey}
+use Rattle.ordered_entries.specs.rdb_types.declared.values.Field.{Field}
+use Rattle.ordered_entries.specs.rdb_types.declared.values.FieldType.{FieldType}
+use Rattle.ordered_entries.specs.rdb_types.declared.values.DataType.TheVariants.{Quadword}
 use Rattle.rdo_ast.specs.declared.syntax.FieldDefinition.{FieldDefinition}
 use Rattle.rdo_ast.specs.declared.syntax.IndexDefinition.{IndexDefinition}
 use Rattle.rdo_ast.specs.declared.syntax.DefinedType.{DefinedType}
@@ -14,7 +14,7 @@ use Rattle.rdo_ast.specs.declared.reply.Reply.TheVariants.{Exists, Duplicate, To
 use Rattle.rdo_ast.specs.Tree.{Name}
 use Rattle.rdb_meaning.specs.declared.tables.Tables.{Tables}
 use Rattle.rdb_meaning.specs.Contents.{Row, same_name, relation_named, fields_of, rows_of, place_of, new_relation_area, new_index_area, longest_value, has_key}
-use Rattle.rdb_types.specs.Order.{chars_order}
+use Rattle.ordered_entries.specs.rdb_types.Order.{chars_order}
 use Rattle.rdb_meaning.specs.Checks.{Refusal, or_else, needs_some, needs_none}
 use Rattle.rdb_meaning.specs.Execution.{area_of}
 

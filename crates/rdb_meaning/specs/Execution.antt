@@ -1,9 +1,9 @@
 -- What STORE, FOR, PRINT, MODIFY and ERASE do, in the order of the work.
 use Rattle.std.specs.Prelude.{ℕ, ◌+◌, Bool, not, ◌&&◌, if◌then◌else◌, ◌==◌, List, [], ◌∷◌, ◌++◌, replicate, length, Option, Some, None, option_and_then, is_some, slice_set, slice_get}
-use Rattle.rdb_types.specs.declared.values.Value.TheVariants.{Missing}
-use Rattle.rdb_types.specs.declared.values.Scaled.{Scaled}
-use Rattle.rdb_types.specs.declared.keys.Dbkey.{Dbkey}
-use Rattle.rdb_types.specs.declared.values.Field.{Field}
+use Rattle.ordered_entries.specs.rdb_types.declared.values.Value.TheVariants.{Missing}
+use Rattle.ordered_entries.specs.rdb_types.declared.values.Scaled.{Scaled}
+use Rattle.ordered_entries.specs.rdb_types.declared.keys.Dbkey.{Dbkey}
+use Rattle.ordered_entries.specs.rdb_types.declared.values.Field.{Field}
 use Rattle.rdo_ast.specs.declared.syntax.Range.{Range}
 use Rattle.rdo_ast.specs.declared.reply.Reply.{Reply}
 use Rattle.rdo_ast.specs.declared.reply.Reply.TheVariants.{Overflow, TooLong, Duplicate}

@@ -2,7 +2,7 @@
 use Rattle.std.specs.Prelude.{◌≡◌, ℕ, Bool, true, false, if◌then◌else◌, List, [], ◌∷◌, Option, Some, None, ◌==◌}
 use Rattle.std.specs.Str.{str_eq_ignore_ascii_case}
 use Rattle.std.specs.FinMap.Entries.{find}
-use Rattle.rdb_types.specs.declared.keys.Dbkey.{Dbkey}
+use Rattle.ordered_entries.specs.rdb_types.declared.keys.Dbkey.{Dbkey}
 use Rattle.rdo_ast.specs.declared.syntax.Reservation.{Reservation}
 use Rattle.rdo_ast.specs.declared.reply.Reply.{Reply}
 use Rattle.rdo_ast.specs.declared.reply.Reply.TheVariants as r
@@ -13,7 +13,7 @@ use Rattle.rdb_meaning.specs.declared.tables.Relation.{Relation}
 use Rattle.rdb_meaning.specs.declared.tables.Index.{Index}
 use Rattle.rdb_meaning.specs.declared.tables.Tables.{Tables}
 use Rattle.rdb_meaning.specs.Contents.{relation_named}
-use Rattle.rdb_types.specs.Order.{chars_order}
+use Rattle.ordered_entries.specs.rdb_types.Order.{chars_order}
 use Rattle.rdb_meaning.specs.Checks.{Refusal, or_else, needs_some, Use, use_of, reservation_refusal, act_names, act_uses, act_clashes, is_retrieval}
 use Rattle.rdb_meaning.specs.Execution.{world, Ran, ran, refused, astray, done}
 use Rattle.rdb_meaning.specs.Defining.{is_among, field_names, with_field, relation_names, with_relation, index_names, index_refusal, with_index, without_relation, without_index}

@@ -1,12 +1,12 @@
 -- Numbers with digits after the point. A number n of scale s is n / 10^s. All sums and products here are of unbounded integers.
 use Rattle.std.specs.Prelude.{ℕ, ◌+◌, ◌-◌, ◌^◌, max, Bool, true, false, ◌&&◌, if◌then◌else◌, nat_lt, nat_le, ℤ, pos, negsuc, ◌+ℤ◌, ◌-ℤ◌, ◌*ℤ◌, neg_ℤ, List, length}
 use Rattle.std.specs.Int.RustNames.{int_div}
-use Rattle.rdb_types.specs.declared.values.Value.{Value}
-use Rattle.rdb_types.specs.declared.values.Value.TheVariants.{Missing, Number, Text}
-use Rattle.rdb_types.specs.declared.values.Scaled.{Scaled}
-use Rattle.rdb_types.specs.declared.values.FieldType.{FieldType}
-use Rattle.rdb_types.specs.declared.values.DataType.{DataType}
-use Rattle.rdb_types.specs.declared.values.DataType.TheVariants as data_type
+use Rattle.ordered_entries.specs.rdb_types.declared.values.Value.{Value}
+use Rattle.ordered_entries.specs.rdb_types.declared.values.Value.TheVariants.{Missing, Number, Text}
+use Rattle.ordered_entries.specs.rdb_types.declared.values.Scaled.{Scaled}
+use Rattle.ordered_entries.specs.rdb_types.declared.values.FieldType.{FieldType}
+use Rattle.ordered_entries.specs.rdb_types.declared.values.DataType.{DataType}
+use Rattle.ordered_entries.specs.rdb_types.declared.values.DataType.TheVariants as data_type
 use Rattle.rdo_ast.specs.declared.syntax.Arithmetic.{Arithmetic}
 use Rattle.rdo_ast.specs.declared.syntax.Arithmetic.TheVariants.{Plus, Minus, Times}
 

@@ -3,12 +3,14 @@ ghost use Rattle.std.specs.Prelude.{◌≡◌, ◌<◌, length, IfSome};
 ghost use Rattle.std.specs.Option.{option_copied};
 ghost use Rattle.std.specs.FinMap.Entries.{find};
 ghost use Rattle.rdb_meaning.specs.Contents.{relation_named, rows_of, place_of};
-ghost use Rattle.rdb_types.specs.Order.{chars_order, dbkey_order};
+ghost use Rattle.ordered_entries.specs.rdb_types.Order.{chars_order, dbkey_order};
 ghost use Rattle.rdb_meaning.specs.Lookups.{place_and_field};
 
 use crate::same_name;
 use ordered_entries::Entries;
-use rdb_types::{Chars, Copied, Dbkey, Field, FieldType, Fields, NoMemory, Positions, Row};
+use ordered_entries::rdb_types::{
+    Chars, Copied, Dbkey, Field, FieldType, Fields, NoMemory, Positions, Row,
+};
 use std::alloc::Global;
 
 /// A relation: its logical area, its fields in the order of their definition, and its rows in the order of their Dbkeys.

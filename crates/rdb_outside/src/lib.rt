@@ -14,4 +14,5 @@ pub use laws::{
 };
 pub use memory_disk::MemoryDisk;
 pub use memory_streams::{MemorySink, MemorySource};
+pub use rdb_types;
 pub use streams::{Failed, Sink, Source};

@@ -8,7 +8,7 @@ ghost use Rattle.rdb_account.specs.Events.{event_of};
 ghost use Rattle.workload_runs.specs.line_cluster.Deaths.{RoseBy, device_deaths};
 ghost use Rattle.command_words.specs.Options.{limits_of, nothing_asked};
 ghost use Rattle.command_words.specs.Words.{command_of as command_for, AreAccounts};
-ghost use Rattle.rmu_commands.specs.Written.{HasText};
+ghost use Rattle.workload_runs.specs.rmu_commands.Written.{HasText};
 ghost use Rattle.workload_replies.specs.Replies.{has_death};
 ghost use Rattle.workload_runs.specs.Deaths.{HaveCauses, SomeDied};
 ghost use Rattle.workload_runs.specs.Reports.{Reports};

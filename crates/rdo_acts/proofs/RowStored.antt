@@ -23,19 +23,19 @@ use Rattle.statement_view.specs.Over.{Over, laid_over, all_rooms, AreRoomsKnown}
 use Rattle.schema_alone.specs.Schema.{bare}
 use Rattle.view_stages.specs.Stages.{Goes}
 use Rattle.stored_rows.specs.declared.images.Unstored.TheVariants as unstored
-use Rattle.row_writes.specs.declared.target.TargetRelation.{TargetRelation}
-use Rattle.row_writes.specs.declared.stop.PairRefusal.TheVariants as pair
-use Rattle.row_writes.specs.declared.stop.RowRefusal.{RowRefusal}
-use Rattle.row_writes.specs.declared.stop.RowRefusal.TheVariants.{NoImage, NoRoom, Pair}
-use Rattle.row_writes.specs.Stop.{RowStop}
-use Rattle.row_writes.specs.Rows.{IsSoundView, IsStored, IsNotStored, taken_by_another, StoresRow}
+use Rattle.served_selections.specs.row_writes.declared.target.TargetRelation.{TargetRelation}
+use Rattle.served_selections.specs.row_writes.declared.stop.PairRefusal.TheVariants as pair
+use Rattle.served_selections.specs.row_writes.declared.stop.RowRefusal.{RowRefusal}
+use Rattle.served_selections.specs.row_writes.declared.stop.RowRefusal.TheVariants.{NoImage, NoRoom, Pair}
+use Rattle.served_selections.specs.row_writes.Stop.{RowStop}
+use Rattle.served_selections.specs.row_writes.Rows.{IsSoundView, IsStored, IsNotStored, taken_by_another, StoresRow}
 use Rattle.rdo_values.specs.declared.bound.BoundRange.{BoundRange}
 use Rattle.rdo_values.specs.Rows.{row_of, variables_of}
 use Rattle.rdo_bind.specs.declared.assign.BoundAssign.{BoundAssign}
 use Rattle.rdo_bind.specs.Acting.{store, IsBoundAct}
 use Rattle.rdo_bind.specs.Assigning.{written_assign}
 use Rattle.bound_actions.proofs.Same.{act_same}
-use Rattle.stored_schema.specs.Targets.{IsTargetIn}
+use Rattle.selection_areas.specs.stored_schema.Targets.{IsTargetIn}
 use Rattle.rdo_acts.specs.declared.stop.Refusal.{Refusal}
 use Rattle.rdo_acts.specs.declared.work.Given.{Given}
 use Rattle.rdo_acts.specs.declared.work.Work.{Work}

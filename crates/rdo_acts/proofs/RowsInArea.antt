@@ -19,9 +19,9 @@ use Rattle.sound_changes.proofs.Basics.{number_is}
 use Rattle.sound_changes.proofs.Given.{all_others}
 use Rattle.sound_changes.proofs.PairsOut.{left}
 use Rattle.sound_changes.proofs.RowLaid.{found}
-use Rattle.row_writes.specs.declared.target.TargetRelation.{TargetRelation}
-use Rattle.row_writes.specs.Target.{IsTarget}
-use Rattle.statement_sources.proofs.Read.{rows}
+use Rattle.served_selections.specs.row_writes.declared.target.TargetRelation.{TargetRelation}
+use Rattle.served_selections.specs.row_writes.Target.{IsTarget}
+use Rattle.selection_areas.proofs.of_statement_sources.Read.{rows}
 use Rattle.rdo_acts.proofs.RowFound.{none_beside}
 
 -- the lines of the area are the rows of the relation that is written so

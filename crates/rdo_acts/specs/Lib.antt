@@ -1,3 +1,4 @@
+pub use Rattle.selection_areas.specs.statement_sources as statement_sources
 pub mod Unwritten
 pub mod Scopes
 pub mod Ends

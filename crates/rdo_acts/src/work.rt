@@ -2,10 +2,10 @@
 ghost use Rattle.std.specs.Prelude.{◌≡◌, []};
 
 use rdb_types::{Items, Keys, PrintedRows};
-use rdo_select::Sources;
+use selection_areas::stored_schema::Schema;
+use served_selections::rdo_select::Sources;
 use statement_view::Changed;
 use std::alloc::Global;
-use stored_schema::Schema;
 
 /// What each action of a statement is given: memory, the catalog, and what selections read of its relations.
 #[derive(Clone, Copy)]

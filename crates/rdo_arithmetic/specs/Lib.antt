@@ -1,3 +1,4 @@
+pub use Rattle.rdb_meaning.specs as rdb_meaning
 pub mod Answers
 pub mod Reducing
 pub mod RowLaws

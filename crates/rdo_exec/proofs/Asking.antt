@@ -31,11 +31,11 @@ use Rattle.statement_view.specs.Areas.{is_among, IsNeedOf, WritesOf, KeepsTo}
 use Rattle.row_writes.specs.Rows.{IsSoundView}
 use Rattle.row_writes.proofs.AreaLists.{Wider, one_more_area, one_of, need_wider, keeps_wider}
 use Rattle.view_stages.proofs.Ending.{begins}
-use Rattle.schema_writes.specs.declared.stop.SchemaRefusal.{SchemaRefusal}
-use Rattle.schema_writes.specs.declared.stop.SchemaRefusal.TheVariants.{Refused, NoRoom, Full}
-use Rattle.schema_writes.specs.Stop.{SchemaStop}
-use Rattle.schema_writes.specs.Areas.{SchemaKeeps, NoOthers, AreOfIndex, AreOfRelation}
-use Rattle.schema_writes.proofs.Alike.{index_alike, relation_alike}
+use Rattle.deleted_areas.specs.schema_writes.declared.stop.SchemaRefusal.{SchemaRefusal}
+use Rattle.deleted_areas.specs.schema_writes.declared.stop.SchemaRefusal.TheVariants.{Refused, NoRoom, Full}
+use Rattle.deleted_areas.specs.schema_writes.Stop.{SchemaStop}
+use Rattle.deleted_areas.specs.schema_writes.Areas.{SchemaKeeps, NoOthers, AreOfIndex, AreOfRelation}
+use Rattle.deleted_areas.proofs.of_schema_writes.Alike.{index_alike, relation_alike}
 use Rattle.index_writes.specs.Areas.{IndexKeeps}
 use Rattle.used_areas.specs.Areas.{areas_read, areas_changed}
 use Rattle.used_areas.proofs.More.{changed_is_read}

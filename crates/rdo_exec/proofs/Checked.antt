@@ -22,7 +22,7 @@ use Rattle.line_view.specs.Knowledge.{Lines}
 use Rattle.catalog.specs.declared.reading.Catalog.{Catalog}
 use Rattle.sound_lines.specs.Contents.{HaveRows, versions_in}
 use Rattle.sound_changes.specs.Standing.{IsSoundAs}
-use Rattle.schema_writes.proofs.Alike.{Alike, index_alike, relation_alike}
+use Rattle.deleted_areas.proofs.of_schema_writes.Alike.{Alike, index_alike, relation_alike}
 use Rattle.index_writes.specs.Definition.{definition_refusal}
 use Rattle.index_writes.proofs.Refusals.{fields_alike}
 

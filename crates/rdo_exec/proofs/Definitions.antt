@@ -23,11 +23,11 @@ use Rattle.catalog_definitions.specs.Causes.{catalog_room}
 use Rattle.statement_view.specs.Over.{Over, Stands, laid_over, all_rooms, AreRoomsKnown}
 use Rattle.row_writes.specs.Rows.{IsSoundView}
 use Rattle.view_stages.proofs.Ending.{begins}
-use Rattle.schema_writes.specs.declared.stop.SchemaRefusal.{SchemaRefusal}
-use Rattle.schema_writes.specs.declared.stop.SchemaRefusal.TheVariants.{Refused, NoRoom, Full}
-use Rattle.schema_writes.specs.Stop.{SchemaStop}
-use Rattle.schema_writes.specs.Definitions.{IsCarriedOut, IsNotDefined, Defines}
-use Rattle.schema_writes.specs.Deletions.{Deletes}
+use Rattle.deleted_areas.specs.schema_writes.declared.stop.SchemaRefusal.{SchemaRefusal}
+use Rattle.deleted_areas.specs.schema_writes.declared.stop.SchemaRefusal.TheVariants.{Refused, NoRoom, Full}
+use Rattle.deleted_areas.specs.schema_writes.Stop.{SchemaStop}
+use Rattle.deleted_areas.specs.schema_writes.Definitions.{IsCarriedOut, IsNotDefined, Defines}
+use Rattle.deleted_areas.specs.schema_writes.Deletions.{Deletes}
 use Rattle.sound_maps.specs.Maps.{IsSoundWith}
 use Rattle.session_jobs.specs.declared.jobs.Found.{Found}
 use Rattle.rdo_exec.specs.Answers.{answer_of}

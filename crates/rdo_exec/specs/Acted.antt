@@ -13,7 +13,7 @@ use Rattle.line_view.specs.Knowledge.{Knowledge, Lines}
 use Rattle.catalog.specs.declared.reading.Catalog.{Catalog}
 use Rattle.sound_changes.specs.Standing.{IsSoundAs}
 use Rattle.rdo_select.specs.Sources.{Listed, source_at, AreSourcesOf}
-use Rattle.statement_sources.specs.Sources.{AreOfTables, AreIndexed}
+use Rattle.rdo_acts.specs.statement_sources.Sources.{AreOfTables, AreIndexed}
 use Rattle.session_jobs.specs.declared.jobs.Found.{Found}
 use Rattle.session_jobs.specs.declared.jobs.Found.TheVariants as found
 use Rattle.rdo_acts.specs.declared.acting.Outcome.{Outcome}

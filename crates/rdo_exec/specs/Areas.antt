@@ -7,7 +7,7 @@ use Rattle.line_view.specs.Stops.{Answers}
 use Rattle.statement_view.specs.Areas.{is_among, IsNeedOf}
 use Rattle.session_jobs.specs.declared.jobs.Found.{Found}
 use Rattle.session_jobs.specs.declared.jobs.Found.TheVariants.{Done, Missing, Bad, Unworked, NoMemory}
-use Rattle.schema_writes.specs.Stop.{SchemaStop}
+use Rattle.deleted_areas.specs.schema_writes.Stop.{SchemaStop}
 
 -- each need is a line, or all lines, of the areas that are read, or a room of those that are changed, where each line is written
 abbrev pub FoundIn : List ℕ → List ℕ → Found → Type 0

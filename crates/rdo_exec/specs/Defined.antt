@@ -12,9 +12,9 @@ use Rattle.line_view.specs.declared.writes.Write.{Write}
 use Rattle.line_view.specs.Knowledge.{Lines}
 use Rattle.line_view.specs.Writes.{laid_all}
 use Rattle.statement_view.specs.Over.{Over, laid_over, is_written}
-use Rattle.schema_writes.specs.declared.stop.SchemaRefusal.{SchemaRefusal}
-use Rattle.schema_writes.specs.declared.stop.SchemaRefusal.TheVariants.{Refused}
-use Rattle.schema_writes.specs.Stop.{SchemaStop}
+use Rattle.deleted_areas.specs.schema_writes.declared.stop.SchemaRefusal.{SchemaRefusal}
+use Rattle.deleted_areas.specs.schema_writes.declared.stop.SchemaRefusal.TheVariants.{Refused}
+use Rattle.deleted_areas.specs.schema_writes.Stop.{SchemaStop}
 use Rattle.session_jobs.specs.declared.jobs.Found.{Found}
 use Rattle.session_jobs.specs.declared.jobs.Found.TheVariants.{Done, Missing, Bad, Unworked, NoMemory}
 use Rattle.rdo_exec.specs.Answers.{answer_of}

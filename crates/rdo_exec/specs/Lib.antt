@@ -1,3 +1,4 @@
+pub use Rattle.rdo_acts.specs as rdo_acts
 pub mod Answers
 pub mod Ways
 pub mod Left

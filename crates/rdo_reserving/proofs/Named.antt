@@ -20,10 +20,10 @@ use Rattle.rdo_ast.specs.Tree.{said, start_read_write}
 use Rattle.line_view.specs.declared.need.Need.{Need as LineNeed}
 use Rattle.line_view.specs.declared.stop.Stop.TheVariants as stop
 use Rattle.catalog.specs.Reading.{StopsCatalog}
-use Rattle.rdo_exec.specs.Ways.{reserves as has_reservations}
-use Rattle.rdo_exec.proofs.Answered.{unread}
-use Rattle.rdo_exec.proofs.Locks.{unread_asks}
-use Rattle.rdo_exec.proofs.Starting.{reserving_asks}
+use Rattle.remembered_catalog.specs.rdo_exec.Ways.{reserves as has_reservations}
+use Rattle.remembered_catalog.proofs.of_rdo_exec.Answered.{unread}
+use Rattle.remembered_catalog.proofs.of_rdo_exec.Locks.{unread_asks}
+use Rattle.remembered_catalog.proofs.of_rdo_exec.Starting.{reserving_asks}
 use Rattle.reserved_locks.specs.declared.locks.Unnamed.TheVariants.{Lacking, Unknown}
 use Rattle.reserved_locks.specs.Reserved.{lock_for, lock_in, AreLocksOf, IsUnnamed}
 

@@ -11,9 +11,9 @@ use line_view::{Known, Stop};
 use rdb_types::NoMemory;
 use rdo_ast::reply::Standing;
 use rdo_ast::syntax::{Item, Reservation};
-use rdo_exec::RdoStatements;
 use reached_changes::Reaches;
 use remembered_catalog::CatalogMemory;
+use remembered_catalog::rdo_exec::RdoStatements;
 use reserved_locks::{LockNeeds, Reserves, Unnamed, locks_in};
 use session_jobs::{Answer, Job, Statements};
 use std::alloc::Global;
@@ -27,9 +27,9 @@ pub struct ReservingStatements {}
 impl Statements for ReservingStatements {
     ghost use Rattle.sound_maps.specs.Maps.{IsSoundWith};
     ghost use Rattle.sound_maps.specs.Laws.{orderly, empty};
-    ghost use Rattle.rdo_exec.specs.Coming.{FitsKnown};
-    ghost use Rattle.rdo_exec.specs.Left.{IsLeft};
-    ghost use Rattle.rdo_exec.specs.Lasting.{lasts};
+    ghost use Rattle.remembered_catalog.specs.rdo_exec.Coming.{FitsKnown};
+    ghost use Rattle.remembered_catalog.specs.rdo_exec.Left.{IsLeft};
+    ghost use Rattle.remembered_catalog.specs.rdo_exec.Lasting.{lasts};
 
     type Kept = Option<Schema>;
 

@@ -4,9 +4,9 @@ use Rattle.rdb_outside.specs.Disk.{View, OnlyReads}
 use Rattle.line_view.specs.Knowledge.{Lines}
 use Rattle.line_versions.specs.Versions.{Start}
 use Rattle.line_moves.proofs.OnlyPut.{keeps_lines}
-use Rattle.disk_seats.specs.Ledgers.{Ledger}
-use Rattle.disk_versions.proofs.Moves.{kept_by_reads, versions_move}
-use Rattle.member_steps.proofs.Journals.{read_ledger}
+use Rattle.seen_lines.specs.disk_seats.Ledgers.{Ledger}
+use Rattle.version_writing.proofs.of_disk_versions.Moves.{kept_by_reads, versions_move}
+use Rattle.seen_lines.proofs.of_member_steps.Journals.{read_ledger}
 use Rattle.reader_lines.specs.Readers.{IsReader}
 
 pub reads_on : (v w : View) (g : Ledger) (limit : ℕ) (start : Start) (lines : Lines) → IsTrue v.tells → OnlyReads v w → IsReader v g limit start lines → IsReader w g limit start lines

@@ -11,8 +11,8 @@ use Rattle.line_versions.proofs.Steps.{reader_is_right}
 use Rattle.stable_lines.specs.Slots.{line_at}
 use Rattle.line_moves.specs.declared.places.Place.{Place}
 use Rattle.line_moves.specs.Changes.{IsPlaceOf}
-use Rattle.disk_seats.specs.Ledgers.{Ledger}
-use Rattle.committed_lines.proofs.Nowhere.{never_there}
+use Rattle.seen_lines.specs.disk_seats.Ledgers.{Ledger}
+use Rattle.seen_lines.proofs.of_committed_lines.Nowhere.{never_there}
 use Rattle.reader_lines.specs.Readers.{IsReader}
 
 -- no version leads on from a line that was never used

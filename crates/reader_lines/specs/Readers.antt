@@ -5,9 +5,9 @@ use Rattle.rdb_outside.specs.Disk.{View}
 use Rattle.line_view.specs.Knowledge.{Lines, line_in}
 use Rattle.line_versions.specs.Versions.{Start}
 use Rattle.line_versions.specs.Course.{Course, Reading}
-use Rattle.disk_seats.specs.Ledgers.{Ledger}
-use Rattle.disk_seats.specs.Members.{LedgerFacts}
-use Rattle.disk_versions.specs.Versions.{VersionFacts}
+use Rattle.seen_lines.specs.disk_seats.Ledgers.{Ledger}
+use Rattle.seen_lines.specs.disk_seats.Members.{LedgerFacts}
+use Rattle.version_writing.specs.disk_versions.Versions.{VersionFacts}
 
 -- A reader that keeps this from its start goes on, and these lines were committed then.
 pub record IsReader (v : View) (g : Ledger) (limit : ℕ) (start : Start) (lines : Lines) : Type 0 where

@@ -6,18 +6,18 @@ ghost use Rattle.rdb_outside.specs.Disk.{OnlyReads};
 ghost use Rattle.rdb_page.specs.Page.{IsOwner};
 ghost use Rattle.line_view.specs.Knowledge.{Lines, IsInOrder, line_in, lines_in};
 ghost use Rattle.line_store.specs.declared.answers.Fault.TheVariants.{Failed, Bad};
-ghost use Rattle.disk_seats.specs.Ledgers.{Ledger};
-ghost use Rattle.disk_seats.specs.Members.{LedgerFacts};
-ghost use Rattle.committed_tables.specs.Tables.{WereUsed};
+ghost use Rattle.seen_lines.specs.disk_seats.Ledgers.{Ledger};
+ghost use Rattle.seen_lines.specs.disk_seats.Members.{LedgerFacts};
+ghost use Rattle.seen_lines.specs.committed_tables.Tables.{WereUsed};
 ghost use Rattle.seen_lines.specs.Seen.{IsOfArea, with_found};
 ghost use Rattle.reader_lines.specs.Readers.{IsReader};
 
 use crate::reader_line;
 use line_store::ReadStop;
 use ordered_entries::Entries;
-use page_table::PageTable;
 use rdb_outside::Disk;
 use rdb_types::{Dbkey, Image, NoMemory};
+use seen_lines::page_table::PageTable;
 use std::alloc::Global;
 use version_reading::Reader;
 

@@ -4,8 +4,8 @@ ghost use Rattle.rdb_types.specs.declared.file.FileId.{FileId as File};
 ghost use Rattle.rdb_outside.specs.Causes.{Rose};
 ghost use Rattle.rdb_outside.specs.Disk.{OnlyReads};
 ghost use Rattle.line_view.specs.Knowledge.{Lines, line_in};
-ghost use Rattle.disk_seats.specs.Ledgers.{Ledger};
-ghost use Rattle.disk_seats.specs.Members.{LedgerFacts};
+ghost use Rattle.seen_lines.specs.disk_seats.Ledgers.{Ledger};
+ghost use Rattle.seen_lines.specs.disk_seats.Members.{LedgerFacts};
 ghost use Rattle.reader_lines.specs.Readers.{IsReader};
 
 use line_moves::place_of;

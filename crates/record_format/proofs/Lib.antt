@@ -1,3 +1,4 @@
+pub use Rattle.slot_fields.proofs as of_slot_fields
 pub mod Parts
 pub mod Laying
 pub mod Images

@@ -1,14 +1,14 @@
 -- A member whose commit is to be judged, as memory has it.
 use Rattle.std.proofs.Common.{◌≡◌, ◌≤◌, ℕ, Bool, true, length, Some, ap, subst, ◌∙◌}
 use Rattle.std.specs.Prelude.{slice_get}
-use Rattle.disk_store.specs.declared.member.Member.{Member}
-use Rattle.disk_store.specs.declared.member.MemberStage.TheVariants as stage
-use Rattle.disk_store.specs.declared.member.Recovery.TheVariants as recovery
-use Rattle.disk_store.specs.Commits.{is_flying, KeepsCommits}
-use Rattle.disk_store.specs.Memory.{StoreMemory}
-use Rattle.disk_store.specs.Seats.{IsAtStage}
-use Rattle.disk_store.proofs.Closing.{one-member}
-use Rattle.disk_store.proofs.CommitsKept.{ready-judged}
+use Rattle.store_endings.specs.disk_store.declared.member.Member.{Member}
+use Rattle.store_endings.specs.disk_store.declared.member.MemberStage.TheVariants as stage
+use Rattle.store_endings.specs.disk_store.declared.member.Recovery.TheVariants as recovery
+use Rattle.store_endings.specs.disk_store.Commits.{is_flying, KeepsCommits}
+use Rattle.store_endings.specs.disk_store.Memory.{StoreMemory}
+use Rattle.store_endings.specs.disk_store.Seats.{IsAtStage}
+use Rattle.store_endings.proofs.of_disk_store.Closing.{one-member}
+use Rattle.store_endings.proofs.of_disk_store.CommitsKept.{ready-judged}
 
 -- its commit was under way, and has a line
 pub record IsAwaited (m : Member) (commits : Bool) : Type 0 where

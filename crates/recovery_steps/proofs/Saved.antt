@@ -23,31 +23,31 @@ use Rattle.disk_seats.specs.Members.{LedgerFacts}
 use Rattle.disk_seats.proofs.GivenUp.{stands_facts}
 use Rattle.disk_versions.specs.Courses.{course_landed}
 use Rattle.member_steps.specs.Turns.{commit_of_plan}
-use Rattle.ledger_versions.specs.Readers.{set_waiting}
-use Rattle.ledger_versions.proofs.MembersEnd.{member_lands}
-use Rattle.ledger_versions.proofs.Restanding.{some_commit}
+use Rattle.store_endings.specs.ledger_versions.Readers.{set_waiting}
+use Rattle.store_endings.proofs.of_ledger_versions.MembersEnd.{member_lands}
+use Rattle.store_endings.proofs.of_ledger_versions.Restanding.{some_commit}
 use Rattle.member_memory.specs.Memory.{writes_in}
-use Rattle.disk_store.specs.declared.member.Member.{Member}
-use Rattle.disk_store.specs.declared.member.MemberStage.TheVariants as stage
-use Rattle.disk_store.specs.declared.member.Recovery.TheVariants as recovery
-use Rattle.disk_store.specs.declared.held.Tables.{Tables}
-use Rattle.disk_store.specs.Dying.{forgotten}
-use Rattle.disk_store.specs.Landing.{PutsAll, landed_with}
-use Rattle.disk_store.specs.Memory.{StoreMemory}
-use Rattle.disk_store.specs.Seats.{seat_with}
-use Rattle.disk_store.specs.Standing.{IsJudged, StageStands}
-use Rattle.disk_store.specs.Shown.{Shown, sight_of}
-use Rattle.disk_store.specs.Sound.{IsSound}
-use Rattle.disk_store.proofs.Moving.{itself}
-use Rattle.disk_store.proofs.Kept.{kept-stays}
-use Rattle.disk_store.proofs.Ordered.{group-long, same-writes}
-use Rattle.disk_store.proofs.Beside.{StaysWith, same-classes, stays-with}
-use Rattle.disk_store.proofs.Stepping.{ComesTo, does-any}
-use Rattle.disk_store.proofs.Passing.{Passes, header-read, passes-reads, reads-leave, reads-ceiling, tables-pass, slots-pass}
-use Rattle.disk_store.proofs.LinesPut.{all-used}
-use Rattle.disk_store.proofs.Unused.{unused-behind}
-use Rattle.disk_store.proofs.Landed.{slot-behind, number-behind, tables-landed, becomes-landed, takes-landed}
-use Rattle.disk_store.proofs.Judged.{judged-at, its, as-held, slot-is}
+use Rattle.store_endings.specs.disk_store.declared.member.Member.{Member}
+use Rattle.store_endings.specs.disk_store.declared.member.MemberStage.TheVariants as stage
+use Rattle.store_endings.specs.disk_store.declared.member.Recovery.TheVariants as recovery
+use Rattle.store_endings.specs.disk_store.declared.held.Tables.{Tables}
+use Rattle.store_endings.specs.disk_store.Dying.{forgotten}
+use Rattle.store_endings.specs.disk_store.Landing.{PutsAll, landed_with}
+use Rattle.store_endings.specs.disk_store.Memory.{StoreMemory}
+use Rattle.store_endings.specs.disk_store.Seats.{seat_with}
+use Rattle.store_endings.specs.disk_store.Standing.{IsJudged, StageStands}
+use Rattle.store_endings.specs.disk_store.Shown.{Shown, sight_of}
+use Rattle.store_endings.specs.disk_store.Sound.{IsSound}
+use Rattle.store_endings.proofs.of_disk_store.Moving.{itself}
+use Rattle.store_endings.proofs.of_disk_store.Kept.{kept-stays}
+use Rattle.store_endings.proofs.of_disk_store.Ordered.{group-long, same-writes}
+use Rattle.store_endings.proofs.of_disk_store.Beside.{StaysWith, same-classes, stays-with}
+use Rattle.store_endings.proofs.of_disk_store.Stepping.{ComesTo, does-any}
+use Rattle.store_endings.proofs.of_disk_store.Passing.{Passes, header-read, passes-reads, reads-leave, reads-ceiling, tables-pass, slots-pass}
+use Rattle.store_endings.proofs.of_disk_store.LinesPut.{all-used}
+use Rattle.store_endings.proofs.of_disk_store.Unused.{unused-behind}
+use Rattle.store_endings.proofs.of_disk_store.Landed.{slot-behind, number-behind, tables-landed, becomes-landed, takes-landed}
+use Rattle.store_endings.proofs.of_disk_store.Judged.{judged-at, its, as-held, slot-is}
 
 module _ (v w : View) (held : StoreMemory) (s : ℕ) (m : Member) (was : slice_get held.members s ≡ Some m) (at : m.stage ≡ stage.Dead true recovery.Judging) (only : OnlyReads v w)
     (keeps : IsTrue v.tells → (g : Ledger) → LedgerFacts v g → LedgerFacts w g) (stable : IsTrue v.tells → IsStable w) (left : IsTrue w.tells → LeftNow w w.content) (sound : IsSound held) (kept : Tables) (puts : PutsAll held.tables m.written.lines kept)

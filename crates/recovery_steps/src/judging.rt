@@ -10,19 +10,19 @@ ghost use Rattle.line_store.specs.declared.answers.Stepped.TheVariants as steppe
 ghost use Rattle.stable_lines.specs.Journal.{commit_of};
 ghost use Rattle.stable_lines.specs.Progress.{Flight, Progress};
 ghost use Rattle.line_moves.specs.Changes.{IsCommitOf};
-ghost use Rattle.disk_store.specs.declared.member.Member.{Member as Sits};
-ghost use Rattle.disk_store.specs.declared.member.MemberStage.TheVariants as stage;
-ghost use Rattle.disk_store.specs.declared.member.Recovery.TheVariants as recovery;
-ghost use Rattle.disk_store.specs.Seats.{stand_at, IsAtStage};
-ghost use Rattle.disk_store.specs.Shown.{sight_of};
+ghost use Rattle.store_endings.specs.disk_store.declared.member.Member.{Member as Sits};
+ghost use Rattle.store_endings.specs.disk_store.declared.member.MemberStage.TheVariants as stage;
+ghost use Rattle.store_endings.specs.disk_store.declared.member.Recovery.TheVariants as recovery;
+ghost use Rattle.store_endings.specs.disk_store.Seats.{stand_at, IsAtStage};
+ghost use Rattle.store_endings.specs.disk_store.Shown.{sight_of};
 
 use disk_seats::settle;
-use disk_store::{Held, MemberStage, Recovery};
 use line_seat::GroupPlace;
 use line_store::{Fault, Stepped};
 use member_steps::has_commit;
 use rdb_outside::{Disk, Failed};
 use rdb_types::Session;
+use store_endings::disk_store::{Held, MemberStage, Recovery};
 
 // Whether the commit slot of a session's group stands in what reads give, where memory says that it would.
 fn has_group<D: Disk>(disk: &mut D, held: &Held, s: Session) -> Result<bool, Failed>

@@ -3,15 +3,15 @@ ghost use Rattle.std.specs.Prelude.{◌≡◌, Ok};
 ghost use Rattle.line_store.specs.Seats.{IsMember};
 ghost use Rattle.line_store.specs.Sights.{Does, Steps, stepped_to, MayAnswer, IsLess};
 ghost use Rattle.line_store.specs.declared.answers.Stepped.TheVariants as stepped;
-ghost use Rattle.disk_store.specs.declared.member.MemberStage.TheVariants as stage;
-ghost use Rattle.disk_store.specs.Seats.{stand_at, IsAtStage};
-ghost use Rattle.disk_store.specs.Shown.{sight_of};
+ghost use Rattle.store_endings.specs.disk_store.declared.member.MemberStage.TheVariants as stage;
+ghost use Rattle.store_endings.specs.disk_store.Seats.{stand_at, IsAtStage};
+ghost use Rattle.store_endings.specs.disk_store.Shown.{sight_of};
 
 use crate::judge;
-use disk_store::{Held, Recovery};
 use line_store::{Fault, Stepped};
 use rdb_outside::Disk;
 use rdb_types::Session;
+use store_endings::disk_store::{Held, Recovery};
 use store_endings::{bury, put_back, restore};
 
 /// A step of the recovery of a session that died: one write or one barrier at most, and no memory.

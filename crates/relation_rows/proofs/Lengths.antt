@@ -15,8 +15,8 @@ use Rattle.rdb_types.specs.declared.values.Field.{Field}
 use Rattle.rdb_types.specs.declared.values.FieldType.{FieldType}
 use Rattle.rdb_meaning.specs.Numbers.{is_text_type, is_text_kind}
 use Rattle.rdb_meaning.specs.Contents.{longest_value, class_of}
-use Rattle.record_format.specs.Values.{value_fields, values_fields}
-use Rattle.record_format.specs.Rows.{row_fields}
+use Rattle.sorted_index_laws.specs.record_format.Values.{value_fields, values_fields}
+use Rattle.sorted_index_laws.specs.record_format.Rows.{row_fields}
 use Rattle.relation_rows.specs.declared.stored.StoredRelation.{StoredRelation}
 use Rattle.relation_rows.specs.Stored.{is_number_of, is_value_of, are_values_of, IsRowOf}
 

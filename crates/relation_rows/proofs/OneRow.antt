@@ -1,7 +1,7 @@
 -- An image is that of one row of a relation.
 use Rattle.std.proofs.Common.{◌≡◌, ℕ, List, sym, ap, ◌∙◌}
 use Rattle.rdb_types.specs.declared.values.Value.{Value}
-use Rattle.record_format.proofs.Rows.{one_row}
+use Rattle.sorted_index_laws.proofs.of_record_format.Rows.{one_row}
 use Rattle.relation_rows.specs.declared.stored.StoredRelation.{StoredRelation}
 use Rattle.relation_rows.specs.Stored.{IsRowOf, completed}
 

@@ -3,8 +3,8 @@ use Rattle.std.specs.Prelude.{◌≡◌, ℕ, ◌<◌, List, [], ◌∷◌, leng
 use Rattle.std.specs.List.{AllByRecursion}
 use Rattle.rdb_types.specs.declared.keys.Dbkey.{Dbkey}
 use Rattle.rdb_meaning.specs.Contents.{Row, key_of}
-use Rattle.line_view.specs.Knowledge.{Lines}
-use Rattle.index_node.specs.declared.entry.NodeEntry.{NodeEntry}
+use Rattle.sorted_index_laws.specs.line_view.Knowledge.{Lines}
+use Rattle.sorted_index_laws.specs.index_node.declared.entry.NodeEntry.{NodeEntry}
 use Rattle.sorted_index_laws.specs.Tree.{Tree, pairs, IsIndex}
 use Rattle.sorted_index_laws.specs.Changes.{pair_of, with_pair}
 

@@ -9,10 +9,10 @@ use Rattle.rdb_types.specs.declared.values.Field.{Field}
 use Rattle.rdb_types.specs.declared.values.FieldType.{FieldType}
 use Rattle.rdb_types.specs.declared.keys.Dbkey.{Dbkey}
 use Rattle.rdb_meaning.specs.Numbers.{is_text_type, bits_of, fits_bits}
-use Rattle.record_format.specs.Rows.{IsRowImage}
-use Rattle.line_view.specs.declared.need.Need.{Need}
-use Rattle.line_view.specs.declared.need.Need.TheVariants.{Line, Area}
-use Rattle.line_view.specs.Knowledge.{Knowledge, Lines, line_in}
+use Rattle.sorted_index_laws.specs.record_format.Rows.{IsRowImage}
+use Rattle.sorted_index_laws.specs.line_view.declared.need.Need.{Need}
+use Rattle.sorted_index_laws.specs.line_view.declared.need.Need.TheVariants.{Line, Area}
+use Rattle.sorted_index_laws.specs.line_view.Knowledge.{Knowledge, Lines, line_in}
 use Rattle.relation_rows.specs.declared.stored.StoredRelation.{StoredRelation}
 use Rattle.relation_rows.specs.declared.stored.StoredRow.{StoredRow}
 

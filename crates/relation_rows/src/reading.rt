@@ -1,13 +1,13 @@
 // Rows over a view.
 ghost use Rattle.std.specs.Prelude.{◌≡◌, Some, None, IfOk, IfSome, IfNone, Err};
-ghost use Rattle.line_view.specs.Knowledge.{Lines, IsInOrder, Agrees, line_in, lines_in};
-ghost use Rattle.line_view.specs.declared.stop.Stop.TheVariants as stop;
-ghost use Rattle.line_view.specs.declared.need.Need.TheVariants as needs;
+ghost use Rattle.sorted_index_laws.specs.line_view.Knowledge.{Lines, IsInOrder, Agrees, line_in, lines_in};
+ghost use Rattle.sorted_index_laws.specs.line_view.declared.stop.Stop.TheVariants as stop;
+ghost use Rattle.sorted_index_laws.specs.line_view.declared.need.Need.TheVariants as needs;
 ghost use Rattle.relation_rows.specs.Stored.{IsRowAt, IsBadAt, AreRowsOf, IsBadIn, IsNextNeed, IsAreaKnown};
 
 use crate::stored::{Rows, StoredRelation, StoredRow, row_of};
-use line_view::{Need, Never, Seen, Stop, View};
 use rdb_types::{Dbkey, Row};
+use sorted_index_laws::line_view::{Need, Never, Seen, Stop, View};
 use std::alloc::Global;
 
 /// The row at a Dbkey, if a line is present there.

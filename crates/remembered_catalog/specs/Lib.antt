@@ -1,2 +1,3 @@
+pub use Rattle.rdo_exec.specs as rdo_exec
 pub mod Part
 pub mod Shown

@@ -1,2 +1,3 @@
+pub use Rattle.rmu_recover.specs as rmu_recover
 pub mod Keeping
 pub mod Rolling

@@ -14,9 +14,9 @@ use Rattle.stable_lines.specs.Journal.{Journal}
 use Rattle.rolled_lines.specs.HalfLaid.{writes_of}
 use Rattle.journal_backup.specs.Copied.{copy_named}
 use Rattle.guarded_root.specs.Guarded.{IsEndOf, PendingOrEnd, IsRootSlot, IsPendingOr, AddsOnly}
-use Rattle.laid_groups.specs.Forward.{Forward, IsReady, IsHeld, FitAll}
-use Rattle.laid_groups.specs.Laid.{LaidOver}
-use Rattle.laid_groups.specs.Passing.{ceiling_behind}
+use Rattle.fitted_groups.specs.laid_groups.Forward.{Forward, IsReady, IsHeld, FitAll}
+use Rattle.fitted_groups.specs.laid_groups.Laid.{LaidOver}
+use Rattle.fitted_groups.specs.laid_groups.Passing.{ceiling_behind}
 use Rattle.fitted_groups.specs.Meeting.{TakesFirst, FitPages}
 use Rattle.fitted_groups.proofs.Fits.{fits_forward, takes_first, fit_pages}
 use Rattle.rmu_recover.specs.Journals.{files_of, AreJournalsIn}

@@ -29,10 +29,10 @@ use Rattle.rolled_lines.specs.HalfLaid.{line_behind, writes_of}
 use Rattle.rolled_lines.proofs.HalfLaid.{seen_behind, seen_again, after_writes}
 use Rattle.rolled_lines.proofs.Restored.{restored_stands}
 use Rattle.guarded_root.specs.Guarded.{IsEndOf}
-use Rattle.laid_groups.specs.Forward.{Forward, MayBePage, MayBeSpace, IsWrittenBy}
-use Rattle.laid_groups.specs.Laid.{IsEntered, LaidOver}
-use Rattle.laid_groups.specs.Passing.{ceiling_behind}
-use Rattle.laid_groups.proofs.Slots.{space_first, space_last, is_space}
+use Rattle.fitted_groups.specs.laid_groups.Forward.{Forward, MayBePage, MayBeSpace, IsWrittenBy}
+use Rattle.fitted_groups.specs.laid_groups.Laid.{IsEntered, LaidOver}
+use Rattle.fitted_groups.specs.laid_groups.Passing.{ceiling_behind}
+use Rattle.fitted_groups.proofs.of_laid_groups.Slots.{space_first, space_last, is_space}
 use Rattle.rmu_recover.specs.Recovering.{root_rolled, MayBeRolled, IsSource, AreSound, IsRolled}
 
 storage_is : (area : ℕ) → IsAreaFile (storage_area area)

@@ -8,7 +8,7 @@ use Rattle.new_database.specs.Maker.{aij_file}
 use Rattle.stable_lines.specs.Journal.{Journal}
 use Rattle.stable_lines.specs.Rolling.{groups_above}
 use Rattle.rolled_lines.specs.Journals.{follow, laid}
-use Rattle.laid_groups.proofs.Behind.{flat_both}
+use Rattle.fitted_groups.proofs.of_laid_groups.Behind.{flat_both}
 use Rattle.fitted_groups.specs.declared.claims.PageClaim.{PageClaim}
 use Rattle.fitted_groups.specs.Meeting.{lines_among, FitOver, FitPages}
 use Rattle.fitted_groups.specs.Claims.{AreFitted}

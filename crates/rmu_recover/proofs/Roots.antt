@@ -10,9 +10,9 @@ use Rattle.journal_scan.specs.declared.group.Group.{Group}
 use Rattle.new_database.specs.Maker.{root_file}
 use Rattle.stable_lines.specs.Journal.{Journal}
 use Rattle.rolled_lines.specs.Journals.{follow, laid, gap}
-use Rattle.laid_groups.specs.declared.passing.Reached.{Reached}
-use Rattle.laid_groups.specs.Forward.{Forward}
-use Rattle.laid_groups.specs.Passing.{ceiling_behind}
+use Rattle.fitted_groups.specs.laid_groups.declared.passing.Reached.{Reached}
+use Rattle.fitted_groups.specs.laid_groups.Forward.{Forward}
+use Rattle.fitted_groups.specs.laid_groups.Passing.{ceiling_behind}
 use Rattle.rmu_recover.specs.Journals.{FollowsTo}
 use Rattle.rmu_recover.specs.Recovering.{MayStand, IsToRoll, IsSource, IsRolled, WithinRecover, as_before, unfinished, rolled}
 use Rattle.rmu_recover.proofs.Course.{content_stands}

@@ -11,13 +11,13 @@ use Rattle.stable_lines.proofs.Lists.{got_left, got_right}
 use Rattle.rolled_lines.specs.HalfLaid.{writes_of}
 use Rattle.rolled_lines.specs.Journals.{follow, laid, gap, behind}
 use Rattle.journal_backup.specs.Copied.{copy_named}
-use Rattle.laid_groups.specs.declared.passing.Reached.{Reached}
-use Rattle.laid_groups.specs.Forward.{Forward, FitAll}
-use Rattle.laid_groups.specs.Laid.{LaidOver}
-use Rattle.laid_groups.specs.Passing.{IsJournalIn, ceiling_behind, reached_behind}
-use Rattle.laid_groups.proofs.Behind.{flat_both}
-use Rattle.laid_groups.proofs.Running.{laid_on}
-use Rattle.laid_groups.proofs.Walking.{seen_same, ceiling_both}
+use Rattle.fitted_groups.specs.laid_groups.declared.passing.Reached.{Reached}
+use Rattle.fitted_groups.specs.laid_groups.Forward.{Forward, FitAll}
+use Rattle.fitted_groups.specs.laid_groups.Laid.{LaidOver}
+use Rattle.fitted_groups.specs.laid_groups.Passing.{IsJournalIn, ceiling_behind, reached_behind}
+use Rattle.fitted_groups.proofs.of_laid_groups.Behind.{flat_both}
+use Rattle.fitted_groups.proofs.of_laid_groups.Running.{laid_on}
+use Rattle.fitted_groups.proofs.of_laid_groups.Walking.{seen_same, ceiling_both}
 use Rattle.rmu_recover.specs.Journals.{files_of, AreJournalsIn, FollowsTo}
 use Rattle.rmu_recover.proofs.Following.{none_behind, goes_on, too_late, follows_rest, counted, behind_more, behind_gap}
 

@@ -7,8 +7,8 @@ use Rattle.new_database.specs.Maker.{aij_file}
 use Rattle.stable_lines.specs.Journal.{Journal}
 use Rattle.rolled_lines.specs.Journals.{follow, laid}
 use Rattle.journal_backup.specs.Copied.{copy_named}
-use Rattle.laid_groups.specs.declared.passing.Reached.{Reached}
-use Rattle.laid_groups.specs.Passing.{IsJournalIn, ceiling_behind, reached_behind}
+use Rattle.fitted_groups.specs.laid_groups.declared.passing.Reached.{Reached}
+use Rattle.fitted_groups.specs.laid_groups.Passing.{IsJournalIn, ceiling_behind, reached_behind}
 
 -- the files of the copies of these numbers, and behind them the journal's
 abbrev pub files_of : List ℕ → List FileId

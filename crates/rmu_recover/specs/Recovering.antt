@@ -19,8 +19,8 @@ use Rattle.stable_lines.specs.Kept.{Kept, HasNoCommit, IsRujHeader}
 use Rattle.stable_lines.specs.Rolling.{laid_groups}
 use Rattle.rolled_lines.specs.HalfLaid.{writes_of}
 use Rattle.rolled_lines.specs.Journals.{follow, laid}
-use Rattle.laid_groups.specs.Forward.{Forward, MayHold, FitLines}
-use Rattle.laid_groups.specs.Passing.{ceiling_behind}
+use Rattle.fitted_groups.specs.laid_groups.Forward.{Forward, MayHold, FitLines}
+use Rattle.fitted_groups.specs.laid_groups.Passing.{ceiling_behind}
 use Rattle.fitted_groups.specs.Meeting.{TakesFirst, FitPages}
 use Rattle.rmu_recover.specs.Journals.{files_of, AreJournalsIn}
 

@@ -9,7 +9,7 @@ ghost use Rattle.journal_scan.specs.declared.group.Group.{Group};
 ghost use Rattle.stable_lines.specs.Journal.{Journal, next_number};
 ghost use Rattle.stable_lines.specs.Rolling.{groups_above};
 ghost use Rattle.rolled_lines.specs.Journals.{follow, laid as laid_with};
-ghost use Rattle.laid_groups.specs.Passing.{IsJournalIn};
+ghost use Rattle.fitted_groups.specs.laid_groups.Passing.{IsJournalIn};
 ghost use Rattle.fitted_groups.specs.Meeting.{lines_among, FitOver, FitPages};
 ghost use Rattle.fitted_groups.specs.Claims.{AreFitted};
 ghost use Rattle.rmu_recover.specs.Journals.{files_of, AreJournalsIn};

@@ -11,13 +11,13 @@ ghost use Rattle.rolled_lines.specs.Journals.{follow, laid as laid_with, gap as 
 ghost use Rattle.journal_backup.specs.Copied.{copy_named};
 ghost use Rattle.guarded_root.specs.Guarded.{RunsBehind};
 ghost use Rattle.guarded_lines.specs.Laying.{IsArea};
-ghost use Rattle.laid_groups.specs.Forward.{Forward, FitAll, IsReady, KeepsReady};
-ghost use Rattle.laid_groups.specs.Laid.{LaidOver};
-ghost use Rattle.laid_groups.specs.Passing.{IsJournalIn};
+ghost use Rattle.fitted_groups.specs.laid_groups.Forward.{Forward, FitAll, IsReady, KeepsReady};
+ghost use Rattle.fitted_groups.specs.laid_groups.Laid.{LaidOver};
+ghost use Rattle.fitted_groups.specs.laid_groups.Passing.{IsJournalIn};
 ghost use Rattle.rmu_recover.specs.Journals.{files_of, AreJournalsIn, Reaches, FollowsTo};
 
 use crate::RecoverFault;
-use laid_groups::{Reached, lay_journal, pass_journal};
+use fitted_groups::laid_groups::{Reached, lay_journal, pass_journal};
 use line_moves::aij_file;
 use line_opening::OpeningFault;
 use rdb_outside::Disk;

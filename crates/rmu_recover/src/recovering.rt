@@ -10,7 +10,7 @@ ghost use Rattle.new_database.specs.Maker.{root_file as root_named};
 ghost use Rattle.stable_lines.specs.Journal.{Journal};
 ghost use Rattle.rolled_lines.specs.Journals.{follow, gap as gap_at};
 ghost use Rattle.database_opening.specs.Others.{KeepsFile};
-ghost use Rattle.laid_groups.specs.Forward.{Forward};
+ghost use Rattle.fitted_groups.specs.laid_groups.Forward.{Forward};
 ghost use Rattle.fitted_groups.specs.Meeting.{TakesFirst, FitPages};
 ghost use Rattle.rmu_recover.specs.Journals.{files_of, AreJournalsIn};
 ghost use Rattle.rmu_recover.specs.Recovering.{IsOther, IsToRoll, IsSource, AllFit, HasGroups, AreSound, IsRolled, WithinRecover};
@@ -18,8 +18,8 @@ ghost use Rattle.rmu_recover.specs.Recovering.{IsOther, IsToRoll, IsSource, AllF
 use crate::RecoverFault;
 use crate::fitting::check_fit;
 use crate::journals::{lay_all, pass_all};
+use fitted_groups::laid_groups::Reached;
 use guarded_root::{guard, unguard};
-use laid_groups::Reached;
 use line_moves::root_file;
 use line_opening::OpeningFault;
 use line_store::Fault;

@@ -18,7 +18,7 @@ use Rattle.line_moves.proofs.Putting.{HasPlace, place_says}
 use Rattle.line_moves.proofs.Reading.{line_none}
 use Rattle.verified_lines.specs.Faults.{IsAmong, Covers}
 use Rattle.page_faults.specs.Checks.{page_at}
-use Rattle.lines_at_rest.specs.Left.{IsLeftOf, LeavesOut}
+use Rattle.areas_at_rest.specs.lines_at_rest.Left.{IsLeftOf, LeavesOut}
 use Rattle.rmu_verify.specs.Owners.{HasOwners}
 
 even_file : (area : ℕ) → area % 2 ≡ 0 → storage_area area ≡ 2

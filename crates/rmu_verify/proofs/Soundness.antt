@@ -11,7 +11,7 @@ use Rattle.page_faults.specs.Listing.{ListsAll}
 use Rattle.page_faults.proofs.Listed.{all_fine}
 use Rattle.verified_lines.specs.Faults.{AreLineFaults}
 use Rattle.verified_lines.proofs.Clean.{clean}
-use Rattle.lines_at_rest.specs.Left.{AllPass, LeavesOut}
+use Rattle.areas_at_rest.specs.lines_at_rest.Left.{AllPass, LeavesOut}
 use Rattle.rmu_verify.specs.Verified.{AllOwned, AreFaults}
 
 none_first : {X : Type 0} (xs ys : List X) → [] ≡ xs ++ ys → [] ≡ xs

@@ -14,7 +14,7 @@ use Rattle.rmu_texts.specs.declared.faults.VerifyFault.{VerifyFault}
 use Rattle.area_files.specs.Areas.{IsPage}
 use Rattle.page_faults.specs.Checks.{IsOwned}
 use Rattle.page_faults.specs.Listing.{ListsPages}
-use Rattle.lines_at_rest.specs.Left.{LeavesOut}
+use Rattle.areas_at_rest.specs.lines_at_rest.Left.{LeavesOut}
 use Rattle.verified_lines.specs.Relations.{FindsRows, strays_in, FindsIndexes}
 use Rattle.verified_lines.specs.Faults.{Covers, names_in_order, AreLineFaults}
 

@@ -17,13 +17,13 @@ ghost use Rattle.areas_at_rest.specs.Runs.{IsQuiet, AtRest};
 ghost use Rattle.rmu_verify.specs.Added.{IsRooted};
 
 use crate::relations::{entry_in, version_of};
+use areas_at_rest::lines_at_rest::RestReading;
 use areas_at_rest::view_of;
 use catalog::Catalog;
 use catalog_lines::{CatalogLine, IndexLine};
 use index_faults::{Judgement, Walk, judge_contents, walk_index};
 use index_node::NodeEntry;
 use line_opening::OpeningFault;
-use lines_at_rest::RestReading;
 use rdb_outside::Disk;
 use rdb_types::{Chars, Copied, Dbkey, Items, Keys, NoMemory};
 use relation_rows::StoredRelation;

@@ -5,7 +5,7 @@ ghost use Rattle.journal_scan.specs.declared.group.Group.{Group};
 ghost use Rattle.line_view.specs.Knowledge.{Lines};
 ghost use Rattle.stable_lines.specs.Image.{StandsFor};
 ghost use Rattle.sound_lines.specs.Sound.{IsSound};
-ghost use Rattle.lines_at_rest.specs.Left.{AllPass};
+ghost use Rattle.areas_at_rest.specs.lines_at_rest.Left.{AllPass};
 ghost use Rattle.rmu_verify.specs.Verified.{AllOwned, AreFaults};
 
 /// Where there is no fault, each page passes its decoder, owners agree, and the map of lines is sound.

@@ -1,7 +1,7 @@
 // The logical areas that have pages.
 ghost use Rattle.std.specs.Prelude.{◌≡◌, ◌≤◌, length, IfOk, OnOk, IsTrue};
 ghost use Rattle.area_files.specs.Areas.{IsPage};
-ghost use Rattle.lines_at_rest.specs.declared.reading.FaultyPages.{FaultyPages as WhatBecomes};
+ghost use Rattle.areas_at_rest.specs.lines_at_rest.declared.reading.FaultyPages.{FaultyPages as WhatBecomes};
 ghost use Rattle.areas_at_rest.specs.Runs.{IsQuiet};
 ghost use Rattle.rmu_verify.specs.Owners.{AddsOwner, HasOwners};
 

@@ -9,11 +9,11 @@ ghost use Rattle.areas_at_rest.specs.Runs.{IsQuiet, AtRest};
 ghost use Rattle.rmu_verify.specs.Added.{AddsSome};
 
 use crate::relations::version_of;
+use areas_at_rest::lines_at_rest::RestReading;
 use areas_at_rest::view_of;
 use catalog::Catalog;
 use line_faults::row_faults;
 use line_opening::OpeningFault;
-use lines_at_rest::RestReading;
 use rdb_meaning::Relation;
 use rdb_outside::Disk;
 use rdb_types::Keys;

@@ -4,13 +4,13 @@ ghost use Rattle.rdb_page.specs.Page.{IsOwner};
 ghost use Rattle.line_view.specs.Knowledge.{Lines, lines_in, keys_of};
 ghost use Rattle.verified_lines.specs.Relations.{is_stray as is_stray_of, strays_in};
 ghost use Rattle.verified_lines.specs.Faults.{Covers};
-ghost use Rattle.lines_at_rest.specs.declared.reading.FaultyPages.TheVariants.{LeftOut};
+ghost use Rattle.areas_at_rest.specs.lines_at_rest.declared.reading.FaultyPages.TheVariants.{LeftOut};
 ghost use Rattle.areas_at_rest.specs.Runs.{IsQuiet, AtRest};
 
 use crate::owners::owners_of;
 use crate::relations::entry_in;
+use areas_at_rest::lines_at_rest::{AreaLines, RestReading, read_area};
 use line_opening::OpeningFault;
-use lines_at_rest::{AreaLines, RestReading, read_area};
 use rdb_meaning::Tables;
 use rdb_outside::Disk;
 use rdb_types::{Keys, NoMemory};

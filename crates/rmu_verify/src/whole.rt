@@ -7,14 +7,14 @@ ghost use Rattle.stable_lines.specs.Slots.{IsMember, ruj_file as ruj_named};
 ghost use Rattle.stable_lines.specs.Kept.{IsRujHeader};
 ghost use Rattle.stable_lines.specs.Journal.{Journal, IsJournalOf};
 ghost use Rattle.page_faults.specs.Listing.{Grows, ListsPages};
-ghost use Rattle.lines_at_rest.specs.declared.reading.FaultyPages.{FaultyPages as WhatBecomes};
+ghost use Rattle.areas_at_rest.specs.lines_at_rest.declared.reading.FaultyPages.{FaultyPages as WhatBecomes};
 ghost use Rattle.areas_at_rest.specs.Runs.{IsQuiet};
 ghost use Rattle.rmu_verify.specs.Verified.{AreFaults};
 
 use crate::lines::verify_lines;
+use areas_at_rest::lines_at_rest::{FaultyPages, RestReading};
 use before_images::read_before_images;
 use line_opening::OpeningFault;
-use lines_at_rest::{FaultyPages, RestReading};
 use page_faults::{RmuStop, verify_pages};
 use rdb_outside::Disk;
 use rmu_texts::Faults;

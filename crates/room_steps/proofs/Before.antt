@@ -6,14 +6,14 @@ use Rattle.line_store.specs.Shelves.{Shelf}
 use Rattle.line_store.specs.Sights.{Sight}
 use Rattle.line_store.proofs.InTurn.{does-as}
 use Rattle.session_jobs.specs.Records.{Model, IsOrderly}
-use Rattle.session_states.specs.declared.stage.Phase.{Phase}
-use Rattle.session_states.specs.States.{session}
-use Rattle.session_states.proofs.InTurn.{steps-on}
-use Rattle.session_stands.specs.Seated.{IsSeated}
-use Rattle.stage_steps.specs.declared.happening.Happening.{Happening}
-use Rattle.stage_steps.specs.Happenings.{events_of}
-use Rattle.stage_steps.specs.Scenes.{Scene, ComesIn, NearerIn, on_shelf, scene}
-use Rattle.stage_steps.specs.Turns.{Comes, shared}
+use Rattle.gathering_steps.specs.session_states.declared.stage.Phase.{Phase}
+use Rattle.gathering_steps.specs.session_states.States.{session}
+use Rattle.gathering_steps.proofs.of_session_states.InTurn.{steps-on}
+use Rattle.gathering_steps.specs.session_stands.Seated.{IsSeated}
+use Rattle.gathering_steps.specs.stage_steps.declared.happening.Happening.{Happening}
+use Rattle.gathering_steps.specs.stage_steps.Happenings.{events_of}
+use Rattle.gathering_steps.specs.stage_steps.Scenes.{Scene, ComesIn, NearerIn, on_shelf, scene}
+use Rattle.gathering_steps.specs.stage_steps.Turns.{Comes, shared}
 
 pub comes-behind : (M : Model) (orderly : IsOrderly M) (s : ℕ) (x y z : Phase) (word : List ℕ) (a : Sight) (locks : State) (new : Scene) (e : Happening) →
     ((h : Shelf) (dead : ℕ) → Comes M s (shared word h locks dead) x (shared word h locks dead) y []) → (IsSeated a.stand locks s x → IsSeated a.stand locks s y) →

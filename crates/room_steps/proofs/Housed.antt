@@ -12,13 +12,13 @@ use Rattle.line_view.specs.declared.need.Room.{Room}
 use Rattle.line_view.specs.Held.{Held}
 use Rattle.line_store.specs.Seats.{Seat, writing}
 use Rattle.line_store.specs.Sights.{bare}
-use Rattle.session_states.specs.declared.stage.Gather.TheVariants.{Housing}
-use Rattle.session_states.specs.declared.stage.Stage.TheVariants.{Gathering}
-use Rattle.session_states.specs.declared.stage.Phase.TheVariants.{Writing}
-use Rattle.session_states.specs.Locks.{HasJournal}
-use Rattle.session_states.specs.States.{writer}
-use Rattle.session_stands.specs.Seated.{IsSeated}
-use Rattle.stage_steps.proofs.Seated.{rests-at}
+use Rattle.gathering_steps.specs.session_states.declared.stage.Gather.TheVariants.{Housing}
+use Rattle.gathering_steps.specs.session_states.declared.stage.Stage.TheVariants.{Gathering}
+use Rattle.gathering_steps.specs.session_states.declared.stage.Phase.TheVariants.{Writing}
+use Rattle.gathering_steps.specs.session_states.Locks.{HasJournal}
+use Rattle.gathering_steps.specs.session_states.States.{writer}
+use Rattle.gathering_steps.specs.session_stands.Seated.{IsSeated}
+use Rattle.gathering_steps.proofs.of_stage_steps.Seated.{rests-at}
 
 pub house-seat : (stand : ℕ → Seat) (locks : State) (s : ℕ) (standing : Standing) (known : Held) (spoken waits : Bool) (item : Item) → bare (stand s) ≡ writing [] → opened_of locks s ≡ None → HasJournal false (needs_of locks s) → ends_by (uttered_of item) ≡ false →
     (room : Room) (key : Dbkey) (later : List Need) (place : ℕ) → IsSeated stand locks s (Writing (writer standing known spoken waits (Gathering item (Housing room key) later place)))

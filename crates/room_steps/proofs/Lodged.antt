@@ -16,17 +16,17 @@ use Rattle.store_counts.proofs.Kept.{counted-takes}
 use Rattle.store_counts.proofs.Rooms.{takes-page, takes-nothing}
 use Rattle.session_jobs.specs.Records.{Model, IsOrderly}
 use Rattle.stepped_jobs.specs.More.{KnowsMore}
-use Rattle.session_states.specs.declared.stage.Gather.TheVariants.{Locking, Lodging as LodgingOf}
-use Rattle.session_states.specs.declared.stage.Work.TheVariants.{Due, Lodging}
-use Rattle.session_states.specs.declared.stage.Stage.TheVariants.{Working, Gathering}
-use Rattle.session_states.specs.declared.stage.Phase.TheVariants.{Writing}
-use Rattle.session_states.specs.States.{session, writer}
-use Rattle.session_states.specs.Shared.{Shared, with_shelf}
-use Rattle.session_states.specs.Fits.{Learns}
-use Rattle.session_states.specs.Steps.{Step}
-use Rattle.session_states.proofs.Gathering.{drops-lodging, lodges-more, lodges-on}
-use Rattle.session_states.proofs.InTurn.{steps-on}
-use Rattle.session_states.proofs.Working.{reads}
+use Rattle.gathering_steps.specs.session_states.declared.stage.Gather.TheVariants.{Locking, Lodging as LodgingOf}
+use Rattle.gathering_steps.specs.session_states.declared.stage.Work.TheVariants.{Due, Lodging}
+use Rattle.gathering_steps.specs.session_states.declared.stage.Stage.TheVariants.{Working, Gathering}
+use Rattle.gathering_steps.specs.session_states.declared.stage.Phase.TheVariants.{Writing}
+use Rattle.gathering_steps.specs.session_states.States.{session, writer}
+use Rattle.gathering_steps.specs.session_states.Shared.{Shared, with_shelf}
+use Rattle.gathering_steps.specs.session_states.Fits.{Learns}
+use Rattle.gathering_steps.specs.session_states.Steps.{Step}
+use Rattle.gathering_steps.proofs.of_session_states.Gathering.{drops-lodging, lodges-more, lodges-on}
+use Rattle.gathering_steps.proofs.of_session_states.InTurn.{steps-on}
+use Rattle.gathering_steps.proofs.of_session_states.Working.{reads}
 
 -- ---- what a call of the store leaves
 

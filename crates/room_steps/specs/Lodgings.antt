@@ -3,13 +3,13 @@ use Rattle.std.specs.Prelude.{ℕ, List}
 use Rattle.rdb_types.specs.declared.keys.Dbkey.{Dbkey}
 use Rattle.rdo_ast.specs.declared.syntax.Item.{Item}
 use Rattle.line_view.specs.declared.need.Room.{Room}
-use Rattle.session_states.specs.declared.stage.Gather.TheVariants.{Lodging}
-use Rattle.session_states.specs.declared.stage.Phase.{Phase}
-use Rattle.session_states.specs.States.{session}
-use Rattle.session_measure.specs.Weights.{Beside}
-use Rattle.stage_steps.specs.declared.happening.Happening.{Happening}
-use Rattle.stage_steps.specs.declared.terms.Terms.{Terms}
-use Rattle.stage_steps.specs.Nearer.{Nearer}
+use Rattle.gathering_steps.specs.session_states.declared.stage.Gather.TheVariants.{Lodging}
+use Rattle.gathering_steps.specs.session_states.declared.stage.Phase.{Phase}
+use Rattle.gathering_steps.specs.session_states.States.{session}
+use Rattle.gathering_steps.specs.session_measure.Weights.{Beside}
+use Rattle.gathering_steps.specs.stage_steps.declared.happening.Happening.{Happening}
+use Rattle.gathering_steps.specs.stage_steps.declared.terms.Terms.{Terms}
+use Rattle.gathering_steps.specs.stage_steps.Nearer.{Nearer}
 use Rattle.gathering_steps.specs.declared.round.Round.{Round}
 use Rattle.gathering_steps.specs.Rounds.{gathers_at}
 

@@ -3,9 +3,9 @@ ghost use Rattle.std.specs.Prelude.{◌≡◌, ℕ, true};
 ghost use Rattle.rdb_page.specs.Page.{IsOwner, IsClass};
 
 use area_files::storage_area;
+use gathering_steps::session_states::Gather;
 use line_view::Room;
 use rdb_types::Dbkey;
-use session_states::Gather;
 
 /// A room, and the line that was named for it.
 #[derive(Clone, Copy, Debug)]

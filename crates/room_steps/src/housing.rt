@@ -7,12 +7,16 @@ ghost use Rattle.lock_tree_laws.specs.Forest.{opened_of};
 ghost use Rattle.line_store.specs.Rooms.{IsFull};
 ghost use Rattle.line_store.specs.Seats.{IsMember, IsWriting};
 ghost use Rattle.line_store.specs.Shelves.{Shelf};
-ghost use Rattle.stage_steps.specs.Scenes.{ComesIn, scene};
-ghost use Rattle.stage_steps.specs.Turns.{at_stage};
+ghost use Rattle.gathering_steps.specs.stage_steps.Scenes.{ComesIn, scene};
+ghost use Rattle.gathering_steps.specs.stage_steps.Turns.{at_stage};
 ghost use Rattle.gathering_steps.specs.Rounds.{gathers_at};
 
 use crate::naming::{Named, line_node, name_line};
 use gathering_steps::Round;
+use gathering_steps::session_states::{Gather, Stage, Work};
+use gathering_steps::stage_steps::{
+    Common, Happening, Terms, Turned, forgo, refuse_at_limit, want,
+};
 use given_rooms::Rooms;
 use line_store::LineStore;
 use line_view::{Need, Room};
@@ -21,8 +25,6 @@ use rdb_types::{Dbkey, Session};
 use rdo_ast::reply::Reply;
 use rdo_ast::syntax::Item;
 use reached_changes::Reaches;
-use session_states::{Gather, Stage, Work};
-use stage_steps::{Common, Happening, Terms, Turned, forgo, refuse_at_limit, want};
 use vms_queues::Mode;
 
 // It can't go on: the room is none of its area's, or nothing says that a full area may stand in place of its reply.

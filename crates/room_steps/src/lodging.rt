@@ -3,21 +3,21 @@ ghost use Rattle.std.specs.Prelude.{◌≡◌, ℕ, true};
 ghost use Rattle.rdb_page.specs.Page.{IsOwner, IsClass};
 ghost use Rattle.rdb_types.specs.declared.keys.Dbkey.{Dbkey as Key};
 ghost use Rattle.line_view.specs.declared.need.Room.{Room as RoomValue};
-ghost use Rattle.session_states.specs.declared.stage.Gather.TheVariants.{Lodging};
+ghost use Rattle.gathering_steps.specs.session_states.declared.stage.Gather.TheVariants.{Lodging};
 ghost use Rattle.line_store.specs.Seats.{IsMember, IsWriting};
-ghost use Rattle.stage_steps.specs.Scenes.{ComesIn, scene};
+ghost use Rattle.gathering_steps.specs.stage_steps.Scenes.{ComesIn, scene};
 ghost use Rattle.gathering_steps.specs.Rounds.{gathers_at};
 ghost use Rattle.room_steps.specs.Lodgings.{NearerFrom};
 
 use crate::given::{Given, is_of_pages};
 use gathering_steps::Round;
+use gathering_steps::session_states::{Stage, Work};
+use gathering_steps::stage_steps::{Common, Terms, Turned, failed, forgo, quiet};
 use given_rooms::Rooms;
 use line_store::{LineStore, Progress, ReadStop};
 use line_view::{Need, Seen, View};
 use rdb_types::Session;
 use session_jobs::Statements;
-use session_states::{Stage, Work};
-use stage_steps::{Common, Terms, Turned, failed, forgo, quiet};
 use stepped_jobs::fetch;
 
 // The rooms that were given are made known, and the job is due again: what is left of its round is let go.

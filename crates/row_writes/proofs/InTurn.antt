@@ -12,7 +12,7 @@ use Rattle.line_view.specs.Knowledge.{Lines}
 use Rattle.line_view.specs.Held.{Held, knows}
 use Rattle.line_view.specs.Stops.{Stops, Lacks}
 use Rattle.catalog_lines.specs.declared.line.IndexLine.{IndexLine}
-use Rattle.catalog.specs.declared.reading.Catalog.{Catalog}
+use Rattle.sound_changes.specs.catalog.declared.reading.Catalog.{Catalog}
 use Rattle.sound_changes.proofs.AllDone.{all_done}
 use Rattle.statement_view.specs.Over.{Over, laid_over}
 use Rattle.row_writes.specs.Stop.{PairStop}

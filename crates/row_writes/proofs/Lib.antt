@@ -1,3 +1,4 @@
+pub use Rattle.sound_changes.proofs as of_sound_changes
 pub mod Stopping
 pub mod Trees
 pub mod Steps

@@ -16,13 +16,13 @@ use Rattle.line_view.specs.Knowledge.{Lines, line_in, laid}
 use Rattle.line_view.specs.Held.{Held, knows}
 use Rattle.line_view.specs.Stops.{Stops, Lacks}
 use Rattle.catalog_lines.specs.declared.line.IndexLine.{IndexLine}
-use Rattle.catalog.specs.declared.reading.Catalog.{Catalog}
+use Rattle.sound_changes.specs.catalog.declared.reading.Catalog.{Catalog}
 use Rattle.record_format.specs.Rows.{IsRowImage}
 use Rattle.relation_rows.specs.Stored.{IsRowOf, are_values_of}
 use Rattle.stored_rows.specs.Fitting.{IsRowFor}
 use Rattle.stored_rows.specs.declared.images.Unstored.{Unstored}
 use Rattle.stored_rows.specs.declared.images.Unstored.TheVariants.{Misfit, TooLong}
-use Rattle.sound_lines.specs.Contents.{versions_in, version_of, stored}
+use Rattle.sound_changes.specs.sound_lines.Contents.{versions_in, version_of, stored}
 use Rattle.sound_changes.specs.Standing.{IsSoundFor, IsSoundAs, tables_for}
 use Rattle.sound_changes.proofs.Images.{fits_its_fields}
 use Rattle.sound_changes.proofs.RowLaid.{row_written, row_goes as line_erased}

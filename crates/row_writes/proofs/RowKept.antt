@@ -13,9 +13,9 @@ use Rattle.line_view.specs.Held.{Held}
 use Rattle.record_format.specs.Rows.{IsRowImage}
 use Rattle.stored_rows.specs.Fitting.{IsRowFor}
 use Rattle.catalog_lines.specs.declared.line.IndexLine.{IndexLine}
-use Rattle.catalog.specs.declared.reading.Catalog.{Catalog}
-use Rattle.catalog.specs.Directory.{directory}
-use Rattle.catalog.specs.Schema.{catalog_tables, stands}
+use Rattle.sound_changes.specs.catalog.declared.reading.Catalog.{Catalog}
+use Rattle.sound_changes.specs.catalog.Directory.{directory}
+use Rattle.sound_changes.specs.catalog.Schema.{catalog_tables, stands}
 use Rattle.sorted_index_laws.specs.Tree.{Tree, IsIndex}
 use Rattle.sound_changes.specs.Standing.{IsSoundFor, tables_for}
 use Rattle.sound_changes.specs.InTurn.{IsIndexOn}

@@ -22,13 +22,13 @@ use Rattle.line_view.specs.Stops.{Stops, Lacks}
 use Rattle.line_view.specs.Writes.{laid_all}
 use Rattle.line_view.proofs.Written.{laid_in_turn}
 use Rattle.catalog_lines.specs.declared.line.IndexLine.{IndexLine}
-use Rattle.catalog.specs.declared.reading.Catalog.{Catalog}
+use Rattle.sound_changes.specs.catalog.declared.reading.Catalog.{Catalog}
 use Rattle.sorted_index_laws.specs.Tree.{pairs, IsIndex}
 use Rattle.sorted_index_laws.specs.Changes.{pair_of, with_pair, without_pair, has_key, Leaves}
 use Rattle.sorted_index_laws.specs.Insertion.{IsNew}
 use Rattle.sorted_index_laws.proofs.Ordered.{all_append}
 use Rattle.relation_rows.specs.Indexed.{pairs_of}
-use Rattle.sound_lines.specs.Sound.{IsSoundIndex}
+use Rattle.sound_changes.specs.sound_lines.Sound.{IsSoundIndex}
 use Rattle.sound_changes.specs.Standing.{IsSoundFor, tables_for}
 use Rattle.sound_changes.proofs.PairPut.{new_pair, index_put, index_waits}
 use Rattle.sound_changes.proofs.PairsOut.{left, pairs_out, are_at, none_left}

@@ -13,7 +13,7 @@ use Rattle.line_view.specs.declared.stop.Stop.{Stop}
 use Rattle.line_view.specs.Knowledge.{Lines}
 use Rattle.line_view.specs.Stops.{Answers}
 use Rattle.catalog_lines.specs.declared.line.IndexLine.{IndexLine}
-use Rattle.catalog.specs.declared.reading.Catalog.{Catalog}
+use Rattle.sound_changes.specs.catalog.declared.reading.Catalog.{Catalog}
 use Rattle.sorted_index_laws.specs.Tree.{Tree, IsIndex}
 use Rattle.sound_changes.specs.InTurn.{IsIndexOn}
 use Rattle.statement_view.specs.Over.{Over, Stands, laid_over}

@@ -13,8 +13,8 @@ use Rattle.line_view.specs.Knowledge.{Lines}
 use Rattle.line_view.specs.Held.{Held, knows}
 use Rattle.line_view.specs.Stops.{Answers, Lacks}
 use Rattle.catalog_lines.specs.declared.line.IndexLine.{IndexLine}
-use Rattle.catalog.specs.declared.reading.Catalog.{Catalog}
-use Rattle.sound_lines.specs.Sound.{relation_in}
+use Rattle.sound_changes.specs.catalog.declared.reading.Catalog.{Catalog}
+use Rattle.sound_changes.specs.sound_lines.Sound.{relation_in}
 use Rattle.sound_changes.specs.Standing.{IsSoundFor, IsSoundAs, tables_for}
 use Rattle.sound_changes.specs.InTurn.{IsIndexOn}
 use Rattle.statement_view.specs.Over.{Over, Stands, laid_over}

@@ -13,7 +13,7 @@ use Rattle.line_view.specs.Knowledge.{Lines, line_in}
 use Rattle.line_view.specs.Held.{Held, knows}
 use Rattle.line_view.specs.Stops.{Answers, Lacks}
 use Rattle.catalog_lines.specs.declared.line.IndexLine.{IndexLine}
-use Rattle.catalog.specs.declared.reading.Catalog.{Catalog}
+use Rattle.sound_changes.specs.catalog.declared.reading.Catalog.{Catalog}
 use Rattle.sound_changes.specs.Standing.{IsSoundAs}
 use Rattle.stored_rows.specs.declared.images.Unstored.{Unstored}
 use Rattle.stored_rows.specs.declared.images.Unstored.TheVariants.{Misfit, TooLong}

@@ -6,9 +6,9 @@ use Rattle.rdb_meaning.specs.declared.tables.Relation.{Relation as Rows}
 use Rattle.rdb_meaning.specs.declared.tables.Index.{Index as IndexOf}
 use Rattle.rdb_meaning.specs.Contents.{is_used, first_taken}
 use Rattle.catalog_lines.specs.declared.line.IndexLine.{IndexLine}
-use Rattle.catalog.specs.declared.directory.PlacedLine.{PlacedLine}
-use Rattle.catalog.specs.declared.reading.Catalog.{Catalog}
-use Rattle.sound_lines.specs.Contents.{versions_in, version_of}
+use Rattle.sound_changes.specs.catalog.declared.directory.PlacedLine.{PlacedLine}
+use Rattle.sound_changes.specs.catalog.declared.reading.Catalog.{Catalog}
+use Rattle.sound_changes.specs.sound_lines.Contents.{versions_in, version_of}
 use Rattle.sound_changes.specs.Standing.{IsDone}
 use Rattle.sound_changes.specs.InTurn.{IsIndexOn}
 use Rattle.row_writes.specs.declared.target.TargetRelation.{TargetRelation}

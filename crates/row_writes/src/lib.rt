@@ -9,5 +9,6 @@ mod target;
 
 pub use pairs::add_pair;
 pub use rows::{change_row, erase_row, store_row};
+pub use sound_changes::sound_lines;
 pub use stop::{PairRefusal, PairStop, RowRefusal, RowStop};
 pub use target::TargetRelation;

@@ -1,6 +1,6 @@
 -- The entries of the before-image journal.
 use Rattle.std.specs.Prelude.{ℕ, ◌-◌, ◌^◌, ◌<◌, List, [], ◌∷◌, length}
-use Rattle.slot_fields.specs.Fields.{Field, number, text, gap, Has}
+use Rattle.rdb_page.specs.slot_fields.Fields.{Field, number, text, gap, Has}
 use Rattle.rdb_page.specs.Lines.{byte_of, IsAllowedLine}
 use Rattle.ruj_journal.specs.declared.entry.RujEntry.{RujEntry}
 

@@ -1,2 +1,3 @@
+pub use Rattle.rdb_page.specs as rdb_page
 pub mod Entry
 pub mod Header

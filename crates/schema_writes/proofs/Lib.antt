@@ -1,3 +1,5 @@
+pub use Rattle.sound_statements.proofs.of_sound_definitions as of_sound_definitions
+pub use Rattle.sound_statements.proofs as of_sound_statements
 pub mod Alike
 pub mod Made
 pub mod Nodes

@@ -24,10 +24,10 @@ use Rattle.line_store.specs.declared.answers.ReadStop.{ReadStop}
 use Rattle.line_store.specs.declared.answers.ReadStop.TheVariants as read
 use Rattle.line_store.specs.declared.answers.Fault.{Fault}
 use Rattle.line_store.specs.Rooms.{IsBehind}
-use Rattle.page_table.specs.declared.uses.Sought.TheVariants.{Ever}
-use Rattle.page_table.specs.Pages.{Pages, class_in, IsLineOf}
-use Rattle.page_table.specs.Scans.{IsFirst, HasNone}
-use Rattle.page_table.proofs.Orders.{before}
+use Rattle.committed_tables.specs.page_table.declared.uses.Sought.TheVariants.{Ever}
+use Rattle.committed_tables.specs.page_table.Pages.{Pages, class_in, IsLineOf}
+use Rattle.committed_tables.specs.page_table.Scans.{IsFirst, HasNone}
+use Rattle.committed_tables.proofs.of_page_table.Orders.{before}
 use Rattle.committed_tables.specs.Tables.{WereUsed}
 use Rattle.committed_tables.proofs.EverUsed.{none_before, none_left}
 use Rattle.member_memory.proofs.Laying.{same-lines, all-sorted}

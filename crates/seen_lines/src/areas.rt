@@ -8,18 +8,18 @@ ghost use Rattle.line_view.specs.Knowledge.{Lines, IsInOrder, line_in, lines_in}
 ghost use Rattle.line_view.specs.Held.{entry_of};
 ghost use Rattle.line_versions.specs.Lines.{shown};
 ghost use Rattle.line_store.specs.declared.answers.Fault.TheVariants.{Failed, Bad};
-ghost use Rattle.disk_seats.specs.Ledgers.{Ledger};
-ghost use Rattle.disk_seats.specs.Members.{LedgerFacts};
+ghost use Rattle.committed_lines.specs.disk_seats.Ledgers.{Ledger};
+ghost use Rattle.committed_lines.specs.disk_seats.Members.{LedgerFacts};
 ghost use Rattle.committed_lines.specs.Seen.{AreSeen};
 ghost use Rattle.committed_tables.specs.Tables.{WereUsed};
 ghost use Rattle.seen_lines.specs.Seen.{IsOfArea, laid_in, seen_by, with_found};
 
 use committed_lines::{HasBeforeImages, committed_line};
+use committed_tables::page_table::PageTable;
 use line_store::{Fault, ReadStop};
 use line_view::PresentLine;
 use member_memory::MemberLines;
 use ordered_entries::Entries;
-use page_table::PageTable;
 use rdb_outside::Disk;
 use rdb_types::{Dbkey, Image, Line, LineState, NoMemory};
 use std::alloc::Global;

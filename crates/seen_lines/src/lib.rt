@@ -5,4 +5,6 @@ mod areas;
 mod lines;
 
 pub use areas::{own_area, present_lines, seen_area};
+pub use committed_lines;
+pub use committed_tables::page_table;
 pub use lines::seen_line;

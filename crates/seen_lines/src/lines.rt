@@ -5,8 +5,8 @@ ghost use Rattle.rdb_outside.specs.Causes.{Rose};
 ghost use Rattle.rdb_outside.specs.Disk.{OnlyReads};
 ghost use Rattle.line_view.specs.Knowledge.{line_in};
 ghost use Rattle.line_versions.specs.Lines.{shown as shown_of};
-ghost use Rattle.disk_seats.specs.Ledgers.{Ledger};
-ghost use Rattle.disk_seats.specs.Members.{LedgerFacts};
+ghost use Rattle.committed_lines.specs.disk_seats.Ledgers.{Ledger};
+ghost use Rattle.committed_lines.specs.disk_seats.Members.{LedgerFacts};
 ghost use Rattle.committed_lines.specs.Seen.{AreSeen};
 ghost use Rattle.seen_lines.specs.Seen.{seen_by};
 

@@ -4,3 +4,5 @@
 mod laws;
 
 pub use laws::{areas_are_those_of_the_tables, selections_read_what_they_name};
+pub use statement_sources;
+pub use statement_sources::stored_schema;

@@ -6,7 +6,7 @@ use Rattle.line_view.specs.declared.need.Need.{Need}
 use Rattle.line_view.specs.Knowledge.{Knowledge, Lines}
 use Rattle.session_jobs.specs.declared.jobs.Found.{Found}
 use Rattle.session_jobs.specs.declared.jobs.Found.TheVariants as found
-use Rattle.rdo_acts.specs.Selections.{chosen_in_act}
+use Rattle.rdo_exec.specs.rdo_acts.Selections.{chosen_in_act}
 use Rattle.rdo_exec.specs.Needed.{IsOfCatalog, IsActNeed, IfLacking}
 use Rattle.served_actions.specs.Served.{IsSpared}
 use Rattle.served_actions.proofs.Spared.{indexed, spared}

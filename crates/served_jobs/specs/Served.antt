@@ -6,10 +6,10 @@ use Rattle.line_view.specs.declared.need.Need.{Need}
 use Rattle.line_view.specs.Knowledge.{Knowledge, Lines}
 use Rattle.session_jobs.specs.declared.jobs.Found.{Found}
 use Rattle.rdo_bind.specs.Acting.{Act as BoundAct, named_act, IsBoundAct}
-use Rattle.rdo_acts.specs.declared.work.Given.{Given}
-use Rattle.rdo_acts.specs.Scopes.{may_write}
-use Rattle.rdo_acts.specs.Selections.{chosen_in_act}
-use Rattle.rdo_acts.specs.Wanted.{Then}
+use Rattle.rdo_exec.specs.rdo_acts.declared.work.Given.{Given}
+use Rattle.rdo_exec.specs.rdo_acts.Scopes.{may_write}
+use Rattle.rdo_exec.specs.rdo_acts.Selections.{chosen_in_act}
+use Rattle.rdo_exec.specs.rdo_acts.Wanted.{Then}
 use Rattle.rdo_exec.specs.Acted.{AreTogether}
 use Rattle.rdo_exec.specs.Coming.{IsCatalogOfKnown}
 use Rattle.rdo_exec.specs.Needed.{IsOfCatalog, IfLacking}

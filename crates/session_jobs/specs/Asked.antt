@@ -3,7 +3,7 @@ use Rattle.std.specs.Prelude.{◌≡◌, ◌==◌, ◌&&◌, ℕ, Bool, true, fa
 use Rattle.rdo_ast.specs.declared.reply.Standing.{Standing}
 use Rattle.rdo_ast.specs.declared.reply.Standing.TheVariants.{Closed, ReadOnly, ReadWrite}
 use Rattle.rdo_ast.specs.Tree.{Uttered, said, define_field, define_relation, define_index, delete_relation, delete_index}
-use Rattle.rdb_meaning.specs.declared.tables.Tables.{Tables}
+use Rattle.rdb_account.specs.rdb_meaning.declared.tables.Tables.{Tables}
 use Rattle.vms_queues.specs.declared.lock_mode.Mode.{Mode}
 use Rattle.vms_queues.specs.declared.lock_mode.Mode.TheVariants.{PR, EX}
 use Rattle.lock_needs.specs.declared.need.Need.{Need as LockNeed}

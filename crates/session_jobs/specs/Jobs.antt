@@ -5,7 +5,7 @@ use Rattle.rdo_ast.specs.declared.reply.Standing.{Standing}
 use Rattle.rdo_ast.specs.declared.reply.Standing.TheVariants.{Closed}
 use Rattle.rdo_ast.specs.Tree.{Uttered}
 use Rattle.rdo_ast.specs.Views.{uttered_of}
-use Rattle.rdb_meaning.specs.declared.tables.Tables.{Tables}
+use Rattle.rdb_account.specs.rdb_meaning.declared.tables.Tables.{Tables}
 use Rattle.vms_queues.specs.declared.lock_mode.Mode.TheVariants.{EX}
 use Rattle.rdb_account.specs.Places.{begins}
 use Rattle.rdb_account.specs.AskedFor.{is_on_line_of}

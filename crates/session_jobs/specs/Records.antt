@@ -4,9 +4,9 @@ use Rattle.rdb_types.specs.declared.keys.Dbkey.{Dbkey}
 use Rattle.rdo_ast.specs.declared.reply.Reply.{Reply}
 use Rattle.rdo_ast.specs.declared.reply.Standing.{Standing}
 use Rattle.rdo_ast.specs.Tree.{Uttered}
-use Rattle.rdb_meaning.specs.declared.tables.Tables.{Tables}
-use Rattle.rdb_meaning.specs.Meaning.{Does}
-use Rattle.rdb_meaning.specs.Usual.{is_refusal_of_means}
+use Rattle.rdb_account.specs.rdb_meaning.declared.tables.Tables.{Tables}
+use Rattle.rdb_account.specs.rdb_meaning.Meaning.{Does}
+use Rattle.rdb_account.specs.rdb_meaning.Usual.{is_refusal_of_means}
 use Rattle.line_view.specs.declared.writes.Write.{Write}
 use Rattle.line_view.specs.Knowledge.{Knowledge, Lines, IsInOrder, Agrees}
 use Rattle.line_view.specs.Writes.{laid_all}

@@ -7,8 +7,8 @@ pub trait Statements {
     ghost use Rattle.rdo_ast.specs.Tree.{Uttered};
     ghost use Rattle.line_view.specs.Knowledge.{Knowledge, Lines, IsInOrder};
     ghost use Rattle.line_view.specs.Held.{knows};
-    ghost use Rattle.rdb_meaning.specs.declared.tables.Tables.{Tables};
-    ghost use Rattle.rdb_meaning.specs.Contents.{no_tables};
+    ghost use Rattle.rdb_account.specs.rdb_meaning.declared.tables.Tables.{Tables};
+    ghost use Rattle.rdb_account.specs.rdb_meaning.Contents.{no_tables};
     ghost use Rattle.session_jobs.specs.Jobs.{IsFoundFor, HasCause, NamesOnce, IsOutside, NamesNoNeed};
     ghost use Rattle.session_jobs.specs.Kept.{HasCatalogOf};
 

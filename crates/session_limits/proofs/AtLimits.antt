@@ -35,14 +35,14 @@ use Rattle.line_store.specs.Seats.{IsMember, IsWriting}
 use Rattle.line_store.specs.Rooms.{IsFull}
 use Rattle.line_store.specs.Calls.{MayStopChange, MayStopCommit}
 use Rattle.lock_ties.proofs.Got.{ended-tied}
-use Rattle.line_steps.specs.Members.{member, writing}
-use Rattle.line_steps.specs.Right.{Ground, Writes}
-use Rattle.line_steps.specs.Steps.{Here}
-use Rattle.line_steps.proofs.Saying.{refuses-writing}
-use Rattle.line_steps.proofs.Wants.{takes-locks}
-use Rattle.store_counts.specs.Counts.{AreClaimed}
-use Rattle.store_counts.proofs.Kept.{counted-events}
-use Rattle.store_counts.proofs.Limits.{ruj-cause, snap-cause, aij-cause, area-cause}
+use Rattle.session_states.specs.line_steps.Members.{member, writing}
+use Rattle.session_states.specs.line_steps.Right.{Ground, Writes}
+use Rattle.session_states.specs.line_steps.Steps.{Here}
+use Rattle.session_states.proofs.of_line_steps.Saying.{refuses-writing}
+use Rattle.session_states.proofs.of_line_steps.Wants.{takes-locks}
+use Rattle.session_states.specs.store_counts.Counts.{AreClaimed}
+use Rattle.session_states.proofs.of_store_counts.Kept.{counted-events}
+use Rattle.session_states.proofs.of_store_counts.Limits.{ruj-cause, snap-cause, aij-cause, area-cause}
 use Rattle.session_states.specs.declared.stage.Work.TheVariants.{Lacking}
 use Rattle.session_states.specs.declared.stage.Laying.TheVariants.{Claiming}
 use Rattle.session_states.specs.declared.stage.End.TheVariants.{Preparing}

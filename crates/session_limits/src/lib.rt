@@ -4,3 +4,4 @@
 mod refused;
 
 pub use refused::{limits_refuse, refusals_write_nothing};
+pub use session_states;

@@ -7,7 +7,7 @@ use Rattle.lock_tree_laws.specs.Forest.{State}
 use Rattle.lock_tree_laws.specs.Wanted.{needs_of}
 use Rattle.kept_apart.specs.Guards.{may_write}
 use Rattle.line_view.specs.declared.writes.Write.{Write}
-use Rattle.line_steps.specs.Images.{journal_node}
+use Rattle.session_states.specs.line_steps.Images.{journal_node}
 use Rattle.line_store.specs.Seats.{Seat, outside, beginning, writing, changing, prepared, committing, rolling_back, closing, reading, dead, in_flight, done_at}
 use Rattle.line_store.specs.Sights.{bare}
 use Rattle.session_states.specs.declared.stage.Work.TheVariants.{Opening, Due, Out, Lacking, Housing, Fetching, Lodging}

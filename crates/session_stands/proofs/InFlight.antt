@@ -20,10 +20,10 @@ use Rattle.session_jobs.specs.Records.{Model, IsOrderly}
 use Rattle.line_store.specs.Seats.{Seat, outside, beginning, writing, changing, prepared, committing, rolling_back, closing, reading, dead, in_flight, done_at}
 use Rattle.line_store.specs.Shelves.{Shelf}
 use Rattle.line_store.specs.Calls.{MayStand}
-use Rattle.line_steps.specs.Images.{IsCommitting, IsNow, IsStored, journal_node}
-use Rattle.line_steps.specs.Members.{State as Seen, writing as seen_writing}
-use Rattle.line_steps.specs.Right.{Ground, StandsAs}
-use Rattle.line_steps.proofs.Crashes.{stands-now}
+use Rattle.session_states.specs.line_steps.Images.{IsCommitting, IsNow, IsStored, journal_node}
+use Rattle.session_states.specs.line_steps.Members.{State as Seen, writing as seen_writing}
+use Rattle.session_states.specs.line_steps.Right.{Ground, StandsAs}
+use Rattle.session_states.proofs.of_line_steps.Crashes.{stands-now}
 use Rattle.session_states.specs.declared.stage.Work.TheVariants.{Opening as OpeningIt, Due, Out, Lacking, Housing, Fetching, Lodging}
 use Rattle.session_states.specs.declared.stage.Laying.TheVariants.{Claiming, Changing}
 use Rattle.session_states.specs.declared.stage.End.TheVariants.{Preparing, Journal, Ready, Committing, RollingBack, Leaving}

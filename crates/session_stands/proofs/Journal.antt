@@ -14,7 +14,7 @@ use Rattle.lock_tree_laws.specs.Forest.{State, idle, opened_of, party_of}
 use Rattle.lock_tree_laws.specs.Wanted.{needs_of}
 use Rattle.journal_waits.specs.Holders.{is_exclusive_on, WantsExclusively, KeepsTo}
 use Rattle.line_store.specs.Seats.{Seat}
-use Rattle.line_steps.specs.Images.{journal_node}
+use Rattle.session_states.specs.line_steps.Images.{journal_node}
 use Rattle.session_states.specs.declared.stage.End.TheVariants.{Preparing, Journal, Ready, Committing, RollingBack, Leaving}
 use Rattle.session_states.specs.declared.stage.Stage.{Stage}
 use Rattle.session_states.specs.declared.stage.Stage.TheVariants.{Between, Working, Gathering, Reserving, Saying, Ending}

@@ -9,7 +9,7 @@ use Rattle.lock_tree_laws.specs.Wanted.{needs_of}
 use Rattle.kept_apart.specs.Guards.{may_write}
 use Rattle.kept_apart.proofs.Apart.{guarded-apart, write-guards}
 use Rattle.line_view.specs.declared.writes.Write.{Write}
-use Rattle.line_steps.specs.Images.{journal_node}
+use Rattle.session_states.specs.line_steps.Images.{journal_node}
 use Rattle.journal_waits.specs.Holders.{WantsExclusively, KeepsTo}
 use Rattle.line_store.specs.Seats.{Seat, outside, in_flight}
 use Rattle.line_store.specs.Sights.{Sight, StandsAlone, bare}

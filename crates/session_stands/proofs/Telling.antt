@@ -10,8 +10,8 @@ use Rattle.line_store.specs.Seats.{Seat}
 use Rattle.line_store.specs.Shelves.{Shelf}
 use Rattle.line_store.specs.Calls.{KeepsOthers, Lasts}
 use Rattle.line_store.specs.Sights.{Sight, Behind, Does, Stands}
-use Rattle.line_steps.specs.Images.{AreLeft}
-use Rattle.line_steps.proofs.Crashes.{left-goes-on}
+use Rattle.session_states.specs.line_steps.Images.{AreLeft}
+use Rattle.session_states.proofs.of_line_steps.Crashes.{left-goes-on}
 use Rattle.session_states.specs.declared.stage.Life.TheVariants.{Alive}
 use Rattle.session_states.specs.declared.stage.Member.{Member}
 use Rattle.session_states.specs.Kept.{AreKept}

@@ -5,7 +5,7 @@ use Rattle.rdb_account.specs.Legal.{ends_by}
 use Rattle.lock_needs.specs.declared.need.Need.{Need}
 use Rattle.lock_tree_laws.specs.Forest.{State, opened_of}
 use Rattle.lock_tree_laws.specs.Wanted.{needs_of}
-use Rattle.line_steps.specs.Images.{journal_node}
+use Rattle.session_states.specs.line_steps.Images.{journal_node}
 use Rattle.journal_waits.specs.Holders.{WantsExclusively}
 use Rattle.reserved_locks.specs.Reserved.{AreOnAreas}
 use Rattle.line_store.specs.Seats.{Seat, outside, beginning, writing, changing, prepared, committing, rolling_back, reading, dead, done_at}

@@ -6,7 +6,7 @@ use Rattle.rdb_account.specs.Places.{Opening}
 use Rattle.line_view.specs.declared.writes.Write.{Write}
 use Rattle.lock_tree_laws.specs.Wanted.{needs_of}
 use Rattle.kept_apart.specs.Guards.{may_write}
-use Rattle.line_steps.specs.Images.{AreLeft, journal_node}
+use Rattle.session_states.specs.line_steps.Images.{AreLeft, journal_node}
 use Rattle.line_store.specs.Seats.{Seat, outside, in_flight}
 use Rattle.line_store.specs.Shelves.{Shelf}
 use Rattle.line_store.specs.Sights.{Sight, bare}

@@ -6,7 +6,7 @@ ghost use Rattle.rdb_account.specs.Legal.{IsLegal};
 ghost use Rattle.kept_apart.specs.Guards.{may_write};
 ghost use Rattle.lock_tree_laws.specs.Forest.{State, KeepsParties, NeedsAreApart};
 ghost use Rattle.lock_tree_laws.specs.Wanted.{needs_of};
-ghost use Rattle.line_steps.specs.Images.{journal_node};
+ghost use Rattle.session_states.specs.line_steps.Images.{journal_node};
 ghost use Rattle.journal_waits.specs.Holders.{OthersKeepTo};
 ghost use Rattle.line_store.specs.Seats.{Seat, outside};
 ghost use Rattle.line_store.specs.Sights.{Does, StandsAlone, bare};

@@ -15,12 +15,12 @@ use Rattle.rdb_account.specs.Places.{Place, after, place_from}
 use Rattle.rdb_account.specs.Lawful.{want_in, is_nowait}
 use Rattle.rdb_account.proofs.Growth.{place-grown}
 use Rattle.line_view.specs.Held.{Held}
-use Rattle.session_jobs.specs.Records.{Model, IsOrderly}
-use Rattle.line_history.specs.Transactions.{IsAskedOver}
-use Rattle.lock_ties.specs.Ties.{IsTiedTo, IsCall, MayWant, needs_at, wanted_at}
-use Rattle.lock_ties.proofs.Answers.{asked-tied}
-use Rattle.lock_ties.proofs.Got.{got-tied, wants-needs, wants-open}
-use Rattle.lock_ties.proofs.Parted.{got-apart}
+use Rattle.line_steps.specs.session_jobs.Records.{Model, IsOrderly}
+use Rattle.line_steps.specs.line_history.Transactions.{IsAskedOver}
+use Rattle.line_steps.specs.lock_ties.Ties.{IsTiedTo, IsCall, MayWant, needs_at, wanted_at}
+use Rattle.line_steps.proofs.of_lock_ties.Answers.{asked-tied}
+use Rattle.line_steps.proofs.of_lock_ties.Got.{got-tied, wants-needs, wants-open}
+use Rattle.line_steps.proofs.of_lock_ties.Parted.{got-apart}
 use Rattle.line_steps.specs.Members.{member, writing}
 use Rattle.line_steps.specs.Steps.{Here, Steps}
 use Rattle.line_steps.proofs.Wants.{wants-all, wants-got}

@@ -20,12 +20,12 @@ use Rattle.line_view.specs.declared.writes.Write.{Write}
 use Rattle.rdb_account.specs.Events.{Got}
 use Rattle.rdb_account.specs.Places.{Opening, Place, Transaction, after, place_from, is_first_refused, is_done, leaves_none, wanting, with_need, changed}
 use Rattle.rdb_account.specs.Lawful.{is_nowait}
-use Rattle.kept_apart.specs.Guards.{line_node, guards, is_guarded, opens, may_write, is_strong, is_alone, AreOwn}
-use Rattle.kept_apart.proofs.Apart.{may-write-grown}
+use Rattle.stepped_jobs.specs.kept_apart.Guards.{line_node, guards, is_guarded, opens, may_write, is_strong, is_alone, AreOwn}
+use Rattle.stepped_jobs.proofs.of_kept_apart.Apart.{may-write-grown}
 use Rattle.line_store.specs.Seats.{is_written, Adds}
-use Rattle.lock_ties.specs.Ties.{wanted_at}
-use Rattle.lock_ties.proofs.Places.{at-same}
-use Rattle.lock_ties.proofs.Trails.{asked-once, once-place}
+use Rattle.line_steps.specs.lock_ties.Ties.{wanted_at}
+use Rattle.line_steps.proofs.of_lock_ties.Places.{at-same}
+use Rattle.line_steps.proofs.of_lock_ties.Trails.{asked-once, once-place}
 use Rattle.line_steps.specs.Right.{Ground}
 use Rattle.lock_needs.specs.declared.party.OpenWant.{OpenWant}
 use Rattle.session_states.specs.Fits.{has_said, WantsAtMost}

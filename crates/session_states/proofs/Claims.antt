@@ -13,10 +13,10 @@ use Rattle.lock_needs.proofs.NodeLaws.{same_node-refl}
 use Rattle.line_view.specs.declared.writes.Write.{Write}
 use Rattle.rdb_account.specs.Events.{Event, Got, need as lock}
 use Rattle.rdb_account.specs.Places.{Opening, Place, Transaction, after, place_from, changed, with_need}
-use Rattle.kept_apart.specs.Guards.{line_node}
+use Rattle.stepped_jobs.specs.kept_apart.Guards.{line_node}
 use Rattle.line_store.specs.Shelves.{Shelf}
-use Rattle.lock_ties.specs.Ties.{wanted_at}
-use Rattle.lock_ties.proofs.Places.{at-same}
+use Rattle.line_steps.specs.lock_ties.Ties.{wanted_at}
+use Rattle.line_steps.proofs.of_lock_ties.Places.{at-same}
 use Rattle.store_counts.specs.Counts.{written_of, is_on_line, is_claimed, AreClaimed}
 use Rattle.store_counts.specs.Events.{CountNothing}
 use Rattle.store_counts.proofs.Lines.{claimed-on}

@@ -8,7 +8,7 @@ use Rattle.rdb_account.specs.Places.{Opening, Place, Transaction, after, place_f
 use Rattle.line_store.specs.Seats.{Seat, outside, beginning, writing, changing, prepared, committing, rolling_back, closing, reading, dead, writes_of, set_aside, done_at, died, committing_by, rolled_back}
 use Rattle.line_store.specs.Shelves.{Shelf}
 use Rattle.line_store.specs.Calls.{Moves, Commits, KeepsOthers}
-use Rattle.lock_ties.proofs.Places.{at-same, at-other}
+use Rattle.line_steps.proofs.of_lock_ties.Places.{at-same, at-other}
 use Rattle.store_counts.specs.Counts.{IsCounted}
 use Rattle.store_counts.specs.Events.{CountNothing}
 use Rattle.store_counts.proofs.Places.{stay-gone}

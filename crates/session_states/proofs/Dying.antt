@@ -16,7 +16,7 @@ use Rattle.line_view.specs.declared.writes.Write.{Write}
 use Rattle.line_view.specs.Held.{Held, knows, nothing}
 use Rattle.line_view.specs.Knowledge.{Lines}
 use Rattle.line_view.specs.Writes.{laid_all}
-use Rattle.session_jobs.specs.Records.{Model, IsOrderly}
+use Rattle.line_steps.specs.session_jobs.Records.{Model, IsOrderly}
 use Rattle.line_store.specs.Seats.{Seat, outside as seat_outside, beginning, writing as seat_writing, changing, prepared, committing, rolling_back, closing, reading as seat_reading, dead, is_committing, writes_of, in_flight, done_at, died}
 use Rattle.line_store.specs.Shelves.{Shelf}
 use Rattle.line_store.specs.Calls.{Moves, IsUndone, IsSaved}
@@ -42,7 +42,7 @@ use Rattle.session_states.specs.Steps.{Fall}
 use Rattle.session_states.proofs.Basics.{at_time}
 use Rattle.session_states.proofs.Ends.{committed-place, gone-tied}
 use Rattle.session_states.proofs.Flying.{phase-journal}
-use Rattle.lock_ties.proofs.Places.{at-same}
+use Rattle.line_steps.proofs.of_lock_ties.Places.{at-same}
 use Rattle.store_counts.proofs.Kept.{counted-events}
 use Rattle.session_states.proofs.Counting.{died-aside, counted-moved, counted-ended, counted-committed}
 use Rattle.session_states.proofs.Journal.{life-keeps}

@@ -14,7 +14,7 @@ use Rattle.line_view.specs.Held.{Held, knows, nothing}
 use Rattle.line_view.specs.Knowledge.{Lines}
 use Rattle.line_view.specs.declared.writes.Write.{Write}
 use Rattle.line_view.specs.Writes.{laid_all}
-use Rattle.session_jobs.specs.Records.{Model, IsOrderly}
+use Rattle.line_steps.specs.session_jobs.Records.{Model, IsOrderly}
 use Rattle.line_store.specs.Seats.{outside as seat_outside, rolling_back, rolled_back, done_at, writes_of}
 use Rattle.line_store.specs.Shelves.{Shelf}
 use Rattle.line_store.specs.Seats.{closing}
@@ -34,7 +34,7 @@ use Rattle.session_states.specs.Steps.{Step}
 use Rattle.session_states.proofs.Basics.{at_time}
 use Rattle.session_states.proofs.Ends.{rolled-place, committed-place, then-said, gone-tied}
 use Rattle.session_states.proofs.Resting.{found-here, none-dead, time-later, rests-on}
-use Rattle.lock_ties.proofs.Places.{at-same}
+use Rattle.line_steps.proofs.of_lock_ties.Places.{at-same}
 use Rattle.store_counts.proofs.Kept.{counted-events}
 use Rattle.session_states.proofs.Counting.{counted-moved, counted-ended, counted-committed, rolled-writes, rolled-aside, done-aside}
 

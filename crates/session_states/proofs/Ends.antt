@@ -9,9 +9,9 @@ use Rattle.lock_tree_laws.specs.Wanted.{needs_of}
 use Rattle.rdb_account.specs.Events.{Said, Committed, RolledBack}
 use Rattle.rdb_account.specs.Places.{Opening, Place, Transaction, Line, Ask, Due, nothing, commit_reply, rollback_reply, rolls_back, at, after, changed, with_line, is_writer, asks_of_others, committed_by, behind_roll_back, next_item, ended}
 use Rattle.rdb_account.specs.Lawful.{got_of}
-use Rattle.lock_ties.specs.Ties.{IsTiedTo, needs_at}
-use Rattle.lock_ties.proofs.Places.{at-same, at-other, number}
-use Rattle.lock_ties.proofs.Got.{ended-tied}
+use Rattle.line_steps.specs.lock_ties.Ties.{IsTiedTo, needs_at}
+use Rattle.line_steps.proofs.of_lock_ties.Places.{at-same, at-other, number}
+use Rattle.line_steps.proofs.of_lock_ties.Got.{ended-tied}
 use Rattle.session_states.specs.Shared.{RestsWith}
 
 -- ---- needs

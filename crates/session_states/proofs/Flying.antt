@@ -12,10 +12,10 @@ use Rattle.line_steps.proofs.Crashes.{one-in-flight}
 use Rattle.line_store.specs.Shelves.{IsAlone}
 use Rattle.line_view.specs.declared.writes.Write.{Write}
 use Rattle.line_view.specs.Held.{Held}
-use Rattle.kept_apart.specs.Guards.{may_write}
-use Rattle.session_jobs.specs.Records.{Model, IsOrderly}
+use Rattle.stepped_jobs.specs.kept_apart.Guards.{may_write}
+use Rattle.line_steps.specs.session_jobs.Records.{Model, IsOrderly}
 use Rattle.line_store.specs.Seats.{Seat, outside, beginning, writing, changing, prepared, committing, rolling_back, closing, reading, dead, in_flight, done_at}
-use Rattle.lock_ties.specs.Ties.{IsTiedTo, needs_at}
+use Rattle.line_steps.specs.lock_ties.Ties.{IsTiedTo, needs_at}
 use Rattle.line_steps.specs.Images.{journal_node}
 use Rattle.line_steps.specs.Right.{Ground}
 use Rattle.session_states.specs.declared.stage.Work.TheVariants.{Opening as OpeningIt, Due, Out, Lacking, Housing, Fetching, Lodging}

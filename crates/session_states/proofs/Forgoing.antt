@@ -13,8 +13,8 @@ use Rattle.rdb_account.specs.Events.{Said}
 use Rattle.rdb_account.specs.Places.{Line, after}
 use Rattle.rdb_account.specs.Legal.{ends_by}
 use Rattle.line_view.specs.Held.{Held}
-use Rattle.session_jobs.specs.Records.{Model, IsOrderly}
-use Rattle.lock_ties.proofs.Got.{ended-tied}
+use Rattle.line_steps.specs.session_jobs.Records.{Model, IsOrderly}
+use Rattle.line_steps.proofs.of_lock_ties.Got.{ended-tied}
 use Rattle.line_steps.specs.Members.{member, writing}
 use Rattle.line_steps.specs.Right.{Writes}
 use Rattle.line_steps.specs.Steps.{Here}

@@ -3,7 +3,7 @@ use Rattle.std.proofs.Common.{◌≡◌, ℕ, ◌++◌, List, ◌∙◌, sym, su
 use Rattle.rdb_account.specs.Events.{Event}
 use Rattle.rdb_account.specs.Places.{Place, place_from}
 use Rattle.rdb_account.proofs.Growth.{place-grown}
-use Rattle.session_jobs.specs.Records.{Model, IsOrderly}
+use Rattle.line_steps.specs.session_jobs.Records.{Model, IsOrderly}
 use Rattle.line_store.specs.Shelves.{Clock, Elapses}
 use Rattle.line_steps.specs.Steps.{Here, Steps}
 use Rattle.line_steps.proofs.Kept.{arrives, in-turn}

@@ -24,9 +24,9 @@ use Rattle.rdb_account.specs.Places.{Opening, Place}
 use Rattle.rdb_account.specs.Lawful.{got_of}
 use Rattle.line_view.specs.Held.{Held}
 use Rattle.line_view.specs.declared.need.Need.TheVariants as need
-use Rattle.kept_apart.specs.Guards.{line_node, may_write}
-use Rattle.session_jobs.specs.Records.{Model, IsOrderly}
-use Rattle.lock_ties.specs.Ties.{needs_at}
+use Rattle.stepped_jobs.specs.kept_apart.Guards.{line_node, may_write}
+use Rattle.line_steps.specs.session_jobs.Records.{Model, IsOrderly}
+use Rattle.line_steps.specs.lock_ties.Ties.{needs_at}
 use Rattle.line_steps.specs.Right.{Ground, Stands}
 use Rattle.line_steps.specs.Images.{journal_node}
 use Rattle.session_states.specs.declared.stage.Work.TheVariants.{Opening as OpeningIt, Due, Out, Lacking, Housing, Fetching, Lodging}

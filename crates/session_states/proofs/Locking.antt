@@ -6,7 +6,7 @@ use Rattle.std.proofs.lemmas.List.Folds.{list_any-append}
 use Rattle.std.proofs.lemmas.Option.{none-some, same_Some}
 use Rattle.vms_queues.specs.declared.lock_mode.Mode.TheVariants.{PR, EX}
 use Rattle.rdb_types.specs.declared.keys.Dbkey.{Dbkey}
-use Rattle.kept_apart.proofs.Apart.{area-guards}
+use Rattle.stepped_jobs.proofs.of_kept_apart.Apart.{area-guards}
 use Rattle.rdo_ast.specs.declared.reply.Standing.{Standing}
 use Rattle.rdo_ast.specs.declared.reply.Standing.TheVariants.{Closed, ReadOnly, ReadWrite}
 use Rattle.rdo_ast.specs.declared.syntax.Item.{Item}
@@ -22,15 +22,15 @@ use Rattle.line_view.specs.declared.need.Need.TheVariants as need
 use Rattle.line_view.specs.declared.writes.Write.{Write}
 use Rattle.line_view.specs.Held.{Held, knows}
 use Rattle.line_view.specs.Knowledge.{Knowledge}
-use Rattle.kept_apart.specs.Guards.{line_node, is_guarded, is_strong, may_write, AreOwn}
-use Rattle.session_jobs.specs.Records.{Model, IsOrderly}
-use Rattle.session_jobs.specs.Asked.{AsksFor, area_mode, is_definition, is_lock_for}
-use Rattle.session_jobs.specs.Jobs.{WhereItAgrees, AreAsked}
-use Rattle.line_history.specs.Transactions.{IsAskedOver}
-use Rattle.line_history.proofs.Needs.{journal-asked, found-asked}
+use Rattle.stepped_jobs.specs.kept_apart.Guards.{line_node, is_guarded, is_strong, may_write, AreOwn}
+use Rattle.line_steps.specs.session_jobs.Records.{Model, IsOrderly}
+use Rattle.line_steps.specs.session_jobs.Asked.{AsksFor, area_mode, is_definition, is_lock_for}
+use Rattle.line_steps.specs.session_jobs.Jobs.{WhereItAgrees, AreAsked}
+use Rattle.line_steps.specs.line_history.Transactions.{IsAskedOver}
+use Rattle.line_steps.proofs.of_line_history.Needs.{journal-asked, found-asked}
 use Rattle.line_store.specs.Seats.{Seat, writing as seat_writing, prepared}
-use Rattle.lock_ties.proofs.Places.{same-number, number}
-use Rattle.lock_ties.proofs.Single.{need-self}
+use Rattle.line_steps.proofs.of_lock_ties.Places.{same-number, number}
+use Rattle.line_steps.proofs.of_lock_ties.Single.{need-self}
 use Rattle.line_steps.specs.Right.{Ground, Writes}
 use Rattle.line_steps.proofs.Wants.{takes-locks}
 use Rattle.session_states.specs.declared.stage.Work.TheVariants.{Opening as OpeningIt, Due, Out, Lacking, Housing, Fetching, Lodging}

@@ -3,7 +3,7 @@ use Rattle.std.proofs.Common.{ℕ, [], ◌∷◌, ◌++◌, List}
 use Rattle.rdb_types.specs.declared.node.Node.{Node}
 use Rattle.lock_needs.specs.declared.need.Need.{Need}
 use Rattle.rdb_account.specs.Events.{Event}
-use Rattle.lock_ties.specs.Ties.{wanted_at}
+use Rattle.line_steps.specs.lock_ties.Ties.{wanted_at}
 use Rattle.session_states.specs.Steps.{IsAt, AreAt}
 
 pub wants-at : (time s : ℕ) (n : Need) (nodes : List Node) → AreAt time (wanted_at s n nodes)

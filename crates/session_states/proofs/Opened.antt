@@ -5,9 +5,9 @@ use Rattle.lock_needs.specs.declared.party.Asked.{Asked}
 use Rattle.lock_tree_laws.specs.Forest.{Parties, idle, open_asks, party_of}
 use Rattle.rdb_account.specs.Places.{Opening, start}
 use Rattle.line_view.specs.Held.{knows, nothing}
-use Rattle.session_jobs.specs.Records.{Model, IsOrderly}
+use Rattle.line_steps.specs.session_jobs.Records.{Model, IsOrderly}
 use Rattle.line_store.specs.Seats.{Seat, outside, beginning, writing, changing, prepared, committing, rolling_back, closing, reading, dead, in_flight, set_aside, lines_written}
-use Rattle.lock_ties.specs.Ties.{AreTied, IsTiedTo}
+use Rattle.line_steps.specs.lock_ties.Ties.{AreTied, IsTiedTo}
 use Rattle.journal_waits.specs.Holders.{KeepsTo}
 use Rattle.line_steps.specs.Images.{journal_node}
 use Rattle.session_states.proofs.Journal.{keeps-none}

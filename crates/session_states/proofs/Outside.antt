@@ -16,11 +16,11 @@ use Rattle.rdb_account.specs.Places.{Opening, Place, Transaction, Line, after, b
 use Rattle.rdb_account.specs.Lawful.{got_of, reply_of}
 use Rattle.rdb_account.specs.Legal.{ends_by, may_be_outside, IsReply}
 use Rattle.line_view.specs.Held.{knows, nothing}
-use Rattle.session_jobs.specs.Records.{Model, IsOrderly}
-use Rattle.session_jobs.specs.Jobs.{IsFound}
-use Rattle.session_jobs.specs.declared.jobs.TxRecord.{TxRecord}
-use Rattle.session_jobs.specs.declared.jobs.Found.TheVariants.{Done}
-use Rattle.lock_ties.proofs.Got.{ended-tied}
+use Rattle.line_steps.specs.session_jobs.Records.{Model, IsOrderly}
+use Rattle.line_steps.specs.session_jobs.Jobs.{IsFound}
+use Rattle.line_steps.specs.session_jobs.declared.jobs.TxRecord.{TxRecord}
+use Rattle.line_steps.specs.session_jobs.declared.jobs.Found.TheVariants.{Done}
+use Rattle.line_steps.proofs.of_lock_ties.Got.{ended-tied}
 use Rattle.line_steps.proofs.Outside.{answers-outside}
 use Rattle.session_states.specs.declared.stage.Phase.TheVariants.{Outside}
 use Rattle.session_states.specs.States.{session}

@@ -12,17 +12,17 @@ use Rattle.rdb_account.specs.Lawful.{got_of, is_nowait, never_sleeps}
 use Rattle.rdb_account.specs.Legal.{ends_by}
 use Rattle.line_view.specs.Held.{Held, knows, nothing}
 use Rattle.line_view.specs.Knowledge.{Lines, Agrees}
-use Rattle.kept_apart.specs.Alike.{IsGuarded}
-use Rattle.kept_apart.proofs.Alike.{alike-refl}
-use Rattle.session_jobs.specs.Records.{Model, IsOrderly}
+use Rattle.stepped_jobs.specs.kept_apart.Alike.{IsGuarded}
+use Rattle.stepped_jobs.proofs.of_kept_apart.Alike.{alike-refl}
+use Rattle.line_steps.specs.session_jobs.Records.{Model, IsOrderly}
 use Rattle.line_store.specs.Seats.{writes_of, outside as seat_outside, beginning, writing as seat_writing, committing_by, done_at}
 use Rattle.line_store.specs.Shelves.{Shelf}
 use Rattle.line_store.specs.Calls.{Moves, IsDone}
 use Rattle.lock_needs.specs.declared.need.Need.{Need}
 use Rattle.lock_needs.specs.Waits.{converts_at}
 use Rattle.line_steps.specs.Images.{journal_node}
-use Rattle.lock_ties.specs.Ties.{needs_at}
-use Rattle.lock_ties.proofs.Places.{at-same, at-other, number}
+use Rattle.line_steps.specs.lock_ties.Ties.{needs_at}
+use Rattle.line_steps.proofs.of_lock_ties.Places.{at-same, at-other, number}
 use Rattle.line_steps.specs.Members.{member, outside, writing}
 use Rattle.line_steps.specs.Right.{Desk, Ground, with_desk}
 use Rattle.line_steps.specs.Steps.{Steps}

@@ -19,16 +19,16 @@ use Rattle.rdb_account.specs.Places.{Opening, Place, Transaction, Line, after, p
 use Rattle.rdb_account.specs.Lawful.{is_nowait}
 use Rattle.rdb_account.proofs.Growth.{place-grown}
 use Rattle.line_view.specs.Held.{Held}
-use Rattle.session_jobs.specs.Records.{Model, IsOrderly}
+use Rattle.line_steps.specs.session_jobs.Records.{Model, IsOrderly}
 use Rattle.line_store.specs.Seats.{Seat, prepared_by, given_back, writes_of, set_aside, outside, beginning, writing as seat_writing, changing, prepared, committing, rolling_back, closing, reading, dead}
 use Rattle.line_store.specs.Shelves.{Shelf, Clock}
 use Rattle.line_store.specs.Calls.{Moves}
-use Rattle.lock_ties.specs.Ties.{IsTiedTo, IsCall, needs_at, wanted_at}
-use Rattle.lock_ties.proofs.Places.{at-same}
-use Rattle.lock_ties.proofs.Trails.{asked-once, once-place}
-use Rattle.lock_ties.proofs.Answers.{asked-tied}
-use Rattle.lock_ties.proofs.Got.{ended-tied, got-tied, wants-open}
-use Rattle.lock_ties.proofs.Parted.{got-apart}
+use Rattle.line_steps.specs.lock_ties.Ties.{IsTiedTo, IsCall, needs_at, wanted_at}
+use Rattle.line_steps.proofs.of_lock_ties.Places.{at-same}
+use Rattle.line_steps.proofs.of_lock_ties.Trails.{asked-once, once-place}
+use Rattle.line_steps.proofs.of_lock_ties.Answers.{asked-tied}
+use Rattle.line_steps.proofs.of_lock_ties.Got.{ended-tied, got-tied, wants-open}
+use Rattle.line_steps.proofs.of_lock_ties.Parted.{got-apart}
 use Rattle.line_steps.specs.Images.{journal_node}
 use Rattle.line_steps.specs.Members.{member, writing}
 use Rattle.line_steps.specs.Right.{Writes}

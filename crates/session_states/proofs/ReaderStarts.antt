@@ -10,9 +10,9 @@ use Rattle.rdb_meaning.specs.declared.tables.Tables.{Tables}
 use Rattle.rdb_meaning.specs.Meaning.{Meaning, means, meaningless, meaning}
 use Rattle.rdb_account.specs.Places.{Place, Line, begins, leaves_none, is_done, is_writer}
 use Rattle.rdb_account.specs.Legal.{standing_of_reader}
-use Rattle.session_jobs.specs.Records.{Model, IsOrderly, IsRight}
-use Rattle.session_jobs.specs.Jobs.{worked_of}
-use Rattle.session_jobs.specs.declared.jobs.TxRecord.{TxRecord}
+use Rattle.line_steps.specs.session_jobs.Records.{Model, IsOrderly, IsRight}
+use Rattle.line_steps.specs.session_jobs.Jobs.{worked_of}
+use Rattle.line_steps.specs.session_jobs.declared.jobs.TxRecord.{TxRecord}
 use Rattle.line_steps.specs.Right.{Ground, Reads}
 use Rattle.session_states.specs.Fits.{has_said}
 

@@ -14,16 +14,16 @@ use Rattle.rdb_account.specs.Lawful.{got_of}
 use Rattle.rdb_account.specs.Legal.{ends_by}
 use Rattle.line_view.specs.Held.{Held, knows, nothing}
 use Rattle.line_view.specs.Knowledge.{Lines, IsInOrder, Agrees}
-use Rattle.session_jobs.specs.Records.{Model, IsOrderly, IsRight}
-use Rattle.session_jobs.specs.Jobs.{IsFound, worked_of}
-use Rattle.session_jobs.specs.declared.jobs.TxRecord.{TxRecord}
-use Rattle.session_jobs.specs.declared.jobs.Found.TheVariants.{Done}
+use Rattle.line_steps.specs.session_jobs.Records.{Model, IsOrderly, IsRight}
+use Rattle.line_steps.specs.session_jobs.Jobs.{IsFound, worked_of}
+use Rattle.line_steps.specs.session_jobs.declared.jobs.TxRecord.{TxRecord}
+use Rattle.line_steps.specs.session_jobs.declared.jobs.Found.TheVariants.{Done}
 use Rattle.line_store.specs.Seats.{Seat, writes_of, reading as seat_reading}
 use Rattle.line_store.specs.Shelves.{Shelf, seen_from, seen_by}
 use Rattle.line_store.specs.Calls.{Moves, KeepsOthers, KeepsSpace}
-use Rattle.lock_ties.specs.Ties.{IsTiedTo}
-use Rattle.lock_ties.proofs.Places.{at-same}
-use Rattle.lock_ties.proofs.Got.{ended-tied}
+use Rattle.line_steps.specs.lock_ties.Ties.{IsTiedTo}
+use Rattle.line_steps.proofs.of_lock_ties.Places.{at-same}
+use Rattle.line_steps.proofs.of_lock_ties.Got.{ended-tied}
 use Rattle.line_steps.specs.Members.{member, outside, reading}
 use Rattle.line_steps.specs.Right.{Desk, Ground, Reads, with_desk}
 use Rattle.line_steps.specs.Steps.{Here, Steps}

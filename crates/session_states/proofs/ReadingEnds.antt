@@ -9,12 +9,12 @@ use Rattle.rdb_account.specs.Events.{Said, Committed, RolledBack}
 use Rattle.rdb_account.specs.Places.{Place, Transaction, Line, after, leaves_none}
 use Rattle.rdb_account.specs.Legal.{ends_by}
 use Rattle.line_view.specs.Held.{Held, knows, nothing}
-use Rattle.session_jobs.specs.Records.{Model, IsOrderly}
-use Rattle.line_history.proofs.Transactions.{reader-excused}
+use Rattle.line_steps.specs.session_jobs.Records.{Model, IsOrderly}
+use Rattle.line_steps.proofs.of_line_history.Transactions.{reader-excused}
 use Rattle.line_store.specs.Seats.{outside as seat_outside, set_aside}
 use Rattle.line_store.specs.Shelves.{Shelf}
 use Rattle.line_store.specs.Calls.{Moves}
-use Rattle.lock_ties.specs.Ties.{IsTiedTo, needs_at}
+use Rattle.line_steps.specs.lock_ties.Ties.{IsTiedTo, needs_at}
 use Rattle.lock_tree_laws.specs.Forest.{opened_of}
 use Rattle.line_steps.specs.Members.{member, outside, reading}
 use Rattle.line_steps.specs.Right.{Desk, Ground, Reads, with_desk, at_end}
@@ -34,7 +34,7 @@ use Rattle.session_states.proofs.Basics.{at_time}
 use Rattle.session_states.proofs.Ending.{is-open}
 use Rattle.session_states.proofs.Ends.{rolled-place, committed-place, then-said, start-gone, start-unasked, gone-tied}
 use Rattle.session_states.proofs.Forgoing.{and-undone}
-use Rattle.lock_ties.proofs.Places.{at-same}
+use Rattle.line_steps.proofs.of_lock_ties.Places.{at-same}
 use Rattle.store_counts.proofs.Kept.{counted-events}
 use Rattle.session_states.proofs.Counting.{counted-over, counted-ended, reader-committed}
 use Rattle.session_states.proofs.Resting.{found-here, none-dead, time-later}

@@ -23,11 +23,11 @@ use Rattle.rdb_account.specs.Legal.{ends_by}
 use Rattle.rdb_account.proofs.Growth.{place-grown}
 use Rattle.line_view.specs.Held.{Held}
 use Rattle.line_view.specs.Writes.{laid_all}
-use Rattle.session_jobs.specs.Records.{Model, IsOrderly}
-use Rattle.line_history.specs.Transactions.{IsAskedOver}
-use Rattle.lock_ties.specs.Ties.{IsTiedTo, IsCall, wanted_at}
-use Rattle.lock_ties.proofs.Places.{number}
-use Rattle.lock_ties.proofs.Got.{closed-tied, wants-needs, wants-open}
+use Rattle.line_steps.specs.session_jobs.Records.{Model, IsOrderly}
+use Rattle.line_steps.specs.line_history.Transactions.{IsAskedOver}
+use Rattle.line_steps.specs.lock_ties.Ties.{IsTiedTo, IsCall, wanted_at}
+use Rattle.line_steps.proofs.of_lock_ties.Places.{number}
+use Rattle.line_steps.proofs.of_lock_ties.Got.{closed-tied, wants-needs, wants-open}
 use Rattle.line_steps.specs.Members.{member, writing}
 use Rattle.line_steps.specs.Right.{Writes}
 use Rattle.line_steps.specs.Steps.{Here, Steps}

@@ -23,14 +23,14 @@ use Rattle.rdb_account.specs.AskedFor.{area_node, is_need, is_mode, is_on_catalo
 use Rattle.line_view.specs.Held.{Held, knows}
 use Rattle.line_view.specs.Knowledge.{Knowledge, Agrees}
 use Rattle.line_view.specs.Writes.{laid_all}
-use Rattle.session_jobs.specs.Records.{Model, IsOrderly}
-use Rattle.session_jobs.specs.Jobs.{WhereItAgrees, IsFound}
-use Rattle.session_jobs.specs.declared.jobs.TxRecord.{TxRecord}
-use Rattle.session_jobs.specs.declared.jobs.Found.TheVariants.{Done}
-use Rattle.line_history.specs.Transactions.{IsAskedOver}
-use Rattle.line_history.proofs.Needs.{reserved-asked}
-use Rattle.line_history.proofs.Transactions.{holds-now}
-use Rattle.lock_ties.specs.Ties.{needs_at}
+use Rattle.line_steps.specs.session_jobs.Records.{Model, IsOrderly}
+use Rattle.line_steps.specs.session_jobs.Jobs.{WhereItAgrees, IsFound}
+use Rattle.line_steps.specs.session_jobs.declared.jobs.TxRecord.{TxRecord}
+use Rattle.line_steps.specs.session_jobs.declared.jobs.Found.TheVariants.{Done}
+use Rattle.line_steps.specs.line_history.Transactions.{IsAskedOver}
+use Rattle.line_steps.proofs.of_line_history.Needs.{reserved-asked}
+use Rattle.line_steps.proofs.of_line_history.Transactions.{holds-now}
+use Rattle.line_steps.specs.lock_ties.Ties.{needs_at}
 use Rattle.line_steps.specs.Right.{Ground, Writes}
 use Rattle.line_steps.specs.Images.{journal_node}
 use Rattle.session_states.specs.declared.stage.Work.TheVariants.{Out}

@@ -7,11 +7,11 @@ use Rattle.rdb_account.specs.Places.{Opening, Place}
 use Rattle.line_view.specs.Held.{Held, knows}
 use Rattle.line_view.specs.Knowledge.{Agrees}
 use Rattle.line_view.specs.Writes.{laid_all}
-use Rattle.kept_apart.specs.Alike.{IsGuarded}
-use Rattle.session_jobs.specs.Records.{Model, IsOrderly}
+use Rattle.stepped_jobs.specs.kept_apart.Alike.{IsGuarded}
+use Rattle.line_steps.specs.session_jobs.Records.{Model, IsOrderly}
 use Rattle.line_store.specs.Shelves.{Shelf}
 use Rattle.line_store.specs.Calls.{KeepsOthers}
-use Rattle.lock_ties.specs.Ties.{needs_at}
+use Rattle.line_steps.specs.lock_ties.Ties.{needs_at}
 use Rattle.line_steps.specs.Members.{State, Member as Seen, member, writing}
 use Rattle.line_steps.specs.Right.{Desk, Ground, with_desk}
 use Rattle.line_steps.specs.Steps.{Found, Here, Steps}

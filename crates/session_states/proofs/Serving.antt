@@ -8,9 +8,9 @@ use Rattle.lock_needs.specs.declared.party.Asked.{Asked}
 use Rattle.lock_tree_laws.specs.Forest.{State, Parties, open_asks, party_of}
 use Rattle.rdb_account.specs.Events.{Demoted}
 use Rattle.rdb_account.specs.Places.{Place}
-use Rattle.kept_apart.proofs.Alike.{alike-refl}
-use Rattle.session_jobs.specs.Records.{Model, IsOrderly}
-use Rattle.lock_ties.specs.Ties.{AreTied, IsTiedTo, needs_at}
+use Rattle.stepped_jobs.proofs.of_kept_apart.Alike.{alike-refl}
+use Rattle.line_steps.specs.session_jobs.Records.{Model, IsOrderly}
+use Rattle.line_steps.specs.lock_ties.Ties.{AreTied, IsTiedTo, needs_at}
 use Rattle.line_steps.specs.Members.{member, writing}
 use Rattle.line_steps.proofs.Taking.{notice-served}
 use Rattle.session_states.specs.declared.stage.Writer.{Writer}

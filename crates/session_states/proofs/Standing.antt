@@ -13,14 +13,14 @@ use Rattle.rdb_account.proofs.Growth.{place-grown}
 use Rattle.line_view.specs.Held.{Held, knows}
 use Rattle.line_view.specs.Knowledge.{IsInOrder}
 use Rattle.line_view.specs.Writes.{laid_all}
-use Rattle.kept_apart.specs.Guards.{AreOwn}
-use Rattle.kept_apart.specs.Alike.{AreAlike, IsGuarded}
-use Rattle.kept_apart.proofs.Alike.{alike-agrees, alike-laid-all}
-use Rattle.session_jobs.specs.Records.{Model, IsOrderly, IsRight}
-use Rattle.session_jobs.specs.Jobs.{worked_of}
-use Rattle.session_jobs.specs.declared.jobs.TxRecord.{TxRecord}
+use Rattle.stepped_jobs.specs.kept_apart.Guards.{AreOwn}
+use Rattle.stepped_jobs.specs.kept_apart.Alike.{AreAlike, IsGuarded}
+use Rattle.stepped_jobs.proofs.of_kept_apart.Alike.{alike-agrees, alike-laid-all}
+use Rattle.line_steps.specs.session_jobs.Records.{Model, IsOrderly, IsRight}
+use Rattle.line_steps.specs.session_jobs.Jobs.{worked_of}
+use Rattle.line_steps.specs.session_jobs.declared.jobs.TxRecord.{TxRecord}
 use Rattle.line_store.specs.Seats.{Seat, reading as seat_reading, in_flight, done_at, Adds}
-use Rattle.lock_ties.specs.Ties.{IsTiedTo, needs_at}
+use Rattle.line_steps.specs.lock_ties.Ties.{IsTiedTo, needs_at}
 use Rattle.line_steps.specs.Members.{Member as Seen}
 use Rattle.line_steps.specs.Right.{Desk, Ground, Stands, AreRight}
 use Rattle.line_steps.proofs.Frame.{place-same}
@@ -41,10 +41,10 @@ use Rattle.session_states.specs.Steps.{Finds, Leaves, Step, Fall}
 use Rattle.session_states.specs.Kept.{AreKept}
 use Rattle.lock_tree_laws.specs.Wanted.{needs_of}
 use Rattle.line_view.specs.declared.writes.Write.{Write}
-use Rattle.kept_apart.specs.Guards.{may_write}
+use Rattle.stepped_jobs.specs.kept_apart.Guards.{may_write}
 use Rattle.line_steps.specs.Images.{journal_node}
 use Rattle.journal_waits.specs.Holders.{KeepsTo}
-use Rattle.lock_ties.proofs.Places.{number}
+use Rattle.line_steps.proofs.of_lock_ties.Places.{number}
 use Rattle.store_counts.specs.Counts.{written_of, IsCounted}
 use Rattle.store_counts.proofs.Places.{HasMore, more-same, touched-on}
 use Rattle.session_states.proofs.Claims.{claims-more}

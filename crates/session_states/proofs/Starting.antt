@@ -24,16 +24,16 @@ use Rattle.rdb_account.proofs.Growth.{place-grown}
 use Rattle.line_view.specs.declared.writes.Write.{Write}
 use Rattle.line_view.specs.Held.{Held, knows, nothing}
 use Rattle.line_view.specs.Writes.{laid_all}
-use Rattle.session_jobs.specs.Records.{Model, IsOrderly, IsRight}
-use Rattle.session_jobs.specs.Jobs.{worked_of}
-use Rattle.session_jobs.specs.declared.jobs.TxRecord.{TxRecord}
-use Rattle.line_history.specs.Transactions.{IsAskedOver}
-use Rattle.line_history.proofs.Standings.{starts-leaves, excused-undone}
+use Rattle.line_steps.specs.session_jobs.Records.{Model, IsOrderly, IsRight}
+use Rattle.line_steps.specs.session_jobs.Jobs.{worked_of}
+use Rattle.line_steps.specs.session_jobs.declared.jobs.TxRecord.{TxRecord}
+use Rattle.line_steps.specs.line_history.Transactions.{IsAskedOver}
+use Rattle.line_steps.proofs.of_line_history.Standings.{starts-leaves, excused-undone}
 use Rattle.line_store.specs.Seats.{Seat, outside as seat_outside, writing as seat_writing, set_aside, rolled_back, done_at}
 use Rattle.line_store.specs.Shelves.{Shelf}
 use Rattle.line_store.specs.Calls.{Moves}
-use Rattle.lock_ties.specs.Ties.{IsTiedTo, IsCall, wanted_at}
-use Rattle.lock_ties.proofs.Got.{closed-tied, wants-needs, wants-open}
+use Rattle.line_steps.specs.lock_ties.Ties.{IsTiedTo, IsCall, wanted_at}
+use Rattle.line_steps.proofs.of_lock_ties.Got.{closed-tied, wants-needs, wants-open}
 use Rattle.line_steps.specs.Members.{member, writing, outside}
 use Rattle.line_steps.specs.Right.{Desk, Ground, Writes, with_desk}
 use Rattle.line_steps.specs.Steps.{Here, Steps}
@@ -54,7 +54,7 @@ use Rattle.session_states.proofs.Ends.{start-gone, start-unasked, rolled-place, 
 use Rattle.session_states.proofs.Locking.{wanting-rests, desk-resting, lock-asks}
 use Rattle.session_states.proofs.Resting.{none-dead, time-later}
 use Rattle.session_states.proofs.Asking.{may-call}
-use Rattle.lock_ties.proofs.Places.{at-same}
+use Rattle.line_steps.proofs.of_lock_ties.Places.{at-same}
 use Rattle.session_states.proofs.Claims.{wanted-nothing, both-nothing}
 use Rattle.session_states.proofs.Counting.{counted-ended}
 use Rattle.session_states.proofs.Storing.{said-needs}

@@ -15,18 +15,18 @@ use Rattle.line_view.specs.declared.writes.Write.{Write}
 use Rattle.line_view.specs.Held.{Held, knows}
 use Rattle.line_view.specs.Knowledge.{Lines, Agrees}
 use Rattle.line_view.specs.Writes.{laid_all}
-use Rattle.kept_apart.specs.Guards.{AreOwn}
-use Rattle.kept_apart.specs.Alike.{IsGuarded}
-use Rattle.kept_apart.proofs.Alike.{laid-all-in-order}
-use Rattle.session_jobs.specs.Records.{Model, IsOrderly, IsRight}
-use Rattle.session_jobs.specs.Jobs.{worked_of}
-use Rattle.session_jobs.specs.declared.jobs.TxRecord.{TxRecord}
+use Rattle.stepped_jobs.specs.kept_apart.Guards.{AreOwn}
+use Rattle.stepped_jobs.specs.kept_apart.Alike.{IsGuarded}
+use Rattle.stepped_jobs.proofs.of_kept_apart.Alike.{laid-all-in-order}
+use Rattle.line_steps.specs.session_jobs.Records.{Model, IsOrderly, IsRight}
+use Rattle.line_steps.specs.session_jobs.Jobs.{worked_of}
+use Rattle.line_steps.specs.session_jobs.declared.jobs.TxRecord.{TxRecord}
 use Rattle.line_store.specs.Seats.{Seat, IsMember, writing as seat_writing, writes_of, done_at, Adds}
 use Rattle.line_store.specs.Shelves.{Shelf}
 use Rattle.line_store.specs.Calls.{Changes, IsDone}
-use Rattle.lock_ties.specs.Ties.{needs_at}
-use Rattle.lock_ties.proofs.Places.{at-same, at-other, number}
-use Rattle.lock_ties.proofs.Got.{ended-tied}
+use Rattle.line_steps.specs.lock_ties.Ties.{needs_at}
+use Rattle.line_steps.proofs.of_lock_ties.Places.{at-same, at-other, number}
+use Rattle.line_steps.proofs.of_lock_ties.Got.{ended-tied}
 use Rattle.line_steps.specs.Right.{Desk, Ground, Writes, with_desk}
 use Rattle.line_steps.proofs.Common.{desk-same}
 use Rattle.line_steps.proofs.Saying.{answers-writing}

@@ -15,15 +15,15 @@ use Rattle.line_view.specs.Held.{Held, knows}
 use Rattle.line_view.specs.Knowledge.{Lines, IsInOrder, Agrees}
 use Rattle.line_view.specs.Writes.{laid_all}
 use Rattle.rdb_types.specs.declared.keys.Dbkey.{Dbkey}
-use Rattle.kept_apart.specs.Alike.{IsGuarded}
-use Rattle.kept_apart.proofs.Alike.{alike-refl, laid-all-in-order}
-use Rattle.session_jobs.specs.Records.{Model, IsOrderly}
-use Rattle.session_jobs.specs.Jobs.{IsFound}
-use Rattle.session_jobs.specs.declared.jobs.TxRecord.{TxRecord}
-use Rattle.session_jobs.specs.declared.jobs.Found.TheVariants.{Done, Missing, Bad}
+use Rattle.stepped_jobs.specs.kept_apart.Alike.{IsGuarded}
+use Rattle.stepped_jobs.proofs.of_kept_apart.Alike.{alike-refl, laid-all-in-order}
+use Rattle.line_steps.specs.session_jobs.Records.{Model, IsOrderly}
+use Rattle.line_steps.specs.session_jobs.Jobs.{IsFound}
+use Rattle.line_steps.specs.session_jobs.declared.jobs.TxRecord.{TxRecord}
+use Rattle.line_steps.specs.session_jobs.declared.jobs.Found.TheVariants.{Done, Missing, Bad}
 use Rattle.line_store.specs.Seats.{Seat, writing as seat_writing}
 use Rattle.line_store.specs.Shelves.{Shelf, seen_from, seen_by}
-use Rattle.lock_ties.specs.Ties.{needs_at}
+use Rattle.line_steps.specs.lock_ties.Ties.{needs_at}
 use Rattle.line_steps.specs.Members.{member, writing}
 use Rattle.line_steps.specs.Right.{Desk, Ground, Writes}
 use Rattle.line_steps.specs.Steps.{Steps}

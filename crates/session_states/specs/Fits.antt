@@ -19,16 +19,16 @@ use Rattle.line_view.specs.declared.writes.Write.{Write}
 use Rattle.line_view.specs.Held.{Held, knows}
 use Rattle.line_view.specs.Knowledge.{Knowledge, Lines, IsInOrder, Agrees}
 use Rattle.line_view.specs.Writes.{laid_all}
-use Rattle.kept_apart.specs.Guards.{AreOwn, line_node, is_guarded, may_write}
-use Rattle.kept_apart.specs.Alike.{IsGuarded}
-use Rattle.session_jobs.specs.Records.{Model, IsRight}
-use Rattle.session_jobs.specs.Asked.{AsksFor, is_lock_for}
-use Rattle.session_jobs.specs.Jobs.{WhereItAgrees, IsRecord, worked_of}
-use Rattle.session_jobs.specs.declared.jobs.TxRecord.{TxRecord}
+use Rattle.stepped_jobs.specs.kept_apart.Guards.{AreOwn, line_node, is_guarded, may_write}
+use Rattle.stepped_jobs.specs.kept_apart.Alike.{IsGuarded}
+use Rattle.line_steps.specs.session_jobs.Records.{Model, IsRight}
+use Rattle.line_steps.specs.session_jobs.Asked.{AsksFor, is_lock_for}
+use Rattle.line_steps.specs.session_jobs.Jobs.{WhereItAgrees, IsRecord, worked_of}
+use Rattle.line_steps.specs.session_jobs.declared.jobs.TxRecord.{TxRecord}
 use Rattle.line_store.specs.Seats.{Seat, outside, beginning, writing, reading, changing, prepared, committing, rolling_back, dead, done_at, Adds}
 use Rattle.line_store.specs.Shelves.{Shelf, seen_by}
-use Rattle.lock_ties.specs.Ties.{IsTiedTo, needs_at}
-use Rattle.line_history.specs.Transactions.{IsAskedOver}
+use Rattle.line_steps.specs.lock_ties.Ties.{IsTiedTo, needs_at}
+use Rattle.line_steps.specs.line_history.Transactions.{IsAskedOver}
 use Rattle.store_counts.specs.Counts.{is_claimed, AreClaimed}
 use Rattle.stepped_jobs.specs.Needs.{IsLocked}
 use Rattle.line_steps.specs.Right.{Ground}

@@ -4,14 +4,14 @@ use Rattle.rdo_ast.specs.declared.syntax.Item.{Item}
 use Rattle.rdo_ast.specs.Views.{uttered_of}
 use Rattle.rdb_account.specs.Events.{Event}
 use Rattle.rdb_account.specs.Places.{Opening, place}
-use Rattle.session_jobs.specs.Records.{Model}
+use Rattle.line_steps.specs.session_jobs.Records.{Model}
 use Rattle.line_view.specs.declared.writes.Write.{Write}
 use Rattle.line_store.specs.Seats.{outside, in_flight}
 use Rattle.lock_tree_laws.specs.Forest.{party_of}
 use Rattle.lock_tree_laws.specs.Wanted.{needs_of}
-use Rattle.kept_apart.specs.Guards.{may_write}
+use Rattle.stepped_jobs.specs.kept_apart.Guards.{may_write}
 use Rattle.store_counts.specs.Counts.{IsCounted, IsCountedFrom}
-use Rattle.lock_ties.specs.Ties.{IsTiedTo}
+use Rattle.line_steps.specs.lock_ties.Ties.{IsTiedTo}
 use Rattle.line_steps.specs.Right.{Ground, AreRight}
 use Rattle.line_steps.specs.Images.{journal_node}
 use Rattle.journal_waits.specs.Holders.{KeepsTo}

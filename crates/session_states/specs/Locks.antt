@@ -13,8 +13,8 @@ use Rattle.rdb_account.specs.AskedFor.{area_node}
 use Rattle.line_view.specs.declared.need.Need.{Need}
 use Rattle.line_view.specs.declared.need.Need.TheVariants.{Line, Area, Room}
 use Rattle.line_view.specs.declared.writes.Write.{Write}
-use Rattle.kept_apart.specs.Guards.{line_node, may_write}
-use Rattle.session_jobs.specs.Asked.{area_mode}
+use Rattle.stepped_jobs.specs.kept_apart.Guards.{line_node, may_write}
+use Rattle.line_steps.specs.session_jobs.Asked.{area_mode}
 use Rattle.line_steps.specs.Images.{journal_node}
 use Rattle.journal_waits.specs.Holders.{is_exclusive_on}
 use Rattle.session_states.specs.declared.stage.Work.{Work}

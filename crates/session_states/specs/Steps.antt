@@ -2,7 +2,7 @@
 use Rattle.std.specs.Prelude.{◌≡◌, ℕ, List, [], ◌∷◌}
 use Rattle.rdb_account.specs.Events.{Event, Committed, Recovered}
 use Rattle.rdb_account.specs.Places.{Opening, Place, place_from}
-use Rattle.session_jobs.specs.Records.{Model}
+use Rattle.line_steps.specs.session_jobs.Records.{Model}
 use Rattle.line_steps.specs.Right.{Ground}
 use Rattle.store_counts.specs.Counts.{IsCounted}
 use Rattle.line_steps.specs.Steps.{Found, Here, Steps}

@@ -3,9 +3,9 @@ use Rattle.std.specs.Prelude.{◌+◌, ◌<◌, Bool, true, List, length, Result
 use Rattle.rdo_ast.specs.declared.syntax.Item.{Item}
 use Rattle.rdo_ast.specs.declared.syntax.Item.TheVariants.{Statement}
 use Rattle.rdo_ast.specs.declared.syntax.Statement.TheVariants.{Commit, Rollback}
-use Rattle.session_jobs.specs.declared.jobs.Found.{Found}
-use Rattle.session_jobs.specs.declared.jobs.Found.TheVariants.{Done, Missing, Bad, Unworked, NoMemory}
-use Rattle.session_jobs.specs.declared.jobs.TxRecord.{TxRecord}
+use Rattle.line_steps.specs.session_jobs.declared.jobs.Found.{Found}
+use Rattle.line_steps.specs.session_jobs.declared.jobs.Found.TheVariants.{Done, Missing, Bad, Unworked, NoMemory}
+use Rattle.line_steps.specs.session_jobs.declared.jobs.TxRecord.{TxRecord}
 use Rattle.line_view.specs.Held.{Held}
 use Rattle.line_view.specs.declared.writes.Write.{Write}
 use Rattle.session_states.specs.declared.stage.Work.{Work}

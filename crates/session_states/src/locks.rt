@@ -2,8 +2,8 @@
 ghost use Rattle.std.specs.Prelude.{◌≡◌};
 ghost use Rattle.rdo_ast.specs.Views.{uttered_of};
 ghost use Rattle.rdb_account.specs.AskedFor.{area_node as node_of};
-ghost use Rattle.kept_apart.specs.Guards.{line_node as node_at};
-ghost use Rattle.session_jobs.specs.Asked.{area_mode as mode_of, is_definition as defines};
+ghost use Rattle.stepped_jobs.specs.kept_apart.Guards.{line_node as node_at};
+ghost use Rattle.line_steps.specs.session_jobs.Asked.{area_mode as mode_of, is_definition as defines};
 ghost use Rattle.session_states.specs.Locks.{lock_for_area as lock_on_area, lock_for_line as lock_on_line, lock_for as lock_to_read, lock_of_work as lock_in_work, lock_of_gather as lock_in_gather, lock_of_write as lock_to_write, lock_of_laying as lock_in_laying, lock_of_end as lock_at_end, lock_of as lock_in};
 
 use crate::stage::{End, Gather, Laying, Stage, Work};

@@ -1,10 +1,10 @@
 use crate::item_queue::ItemQueue;
+use line_steps::session_jobs::{Needs, TxRecord};
 use line_view::{Known, Need, Room};
 use lock_needs::Need as LockNeed;
 use rdb_types::{Dbkey, Items};
 use rdo_ast::reply::Standing;
 use rdo_ast::syntax::Item;
-use session_jobs::{Needs, TxRecord};
 
 /// How the job of a statement goes on.
 #[derive(Clone, Copy)]

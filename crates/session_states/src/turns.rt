@@ -3,11 +3,11 @@ ghost use Rattle.std.specs.Prelude.{◌≡◌};
 ghost use Rattle.session_states.specs.Turns.{taken, returned, got_work, got_gather, got_laying, got_end, got, IsPlace, IsWithin, said_writer};
 
 use crate::stage::{End, Gather, Laying, Stage, Work, Writer};
+use line_steps::session_jobs::{Found, TxRecord};
 use line_view::{Known, Writes};
 use rdb_types::Keys;
 use rdo_ast::reply::Reply;
 use rdo_ast::syntax::{Item, Statement};
-use session_jobs::{Found, TxRecord};
 
 /// The stage of an item that is taken up: a COMMIT is prepared, a ROLLBACK has the store undo, and all else is worked.
 pub fn take_up(item: Item) -> Stage

@@ -1,9 +1,9 @@
 -- Entries of a snapshot file.
 use Rattle.std.specs.Prelude.{ℕ, ◌-◌, ◌^◌, ◌<◌, ◌≤◌, ◌≡◌, List, [], ◌∷◌, length}
-use Rattle.slot_fields.specs.Fields.{Field, number, text, gap, Has}
+use Rattle.rdb_page.specs.slot_fields.Fields.{Field, number, text, gap, Has}
 use Rattle.rdb_page.specs.Lines.{byte_of}
-use Rattle.rdb_types.specs.declared.keys.LineState.{LineState}
-use Rattle.rdb_types.specs.declared.keys.LineState.TheVariants.{Never, Present, Erased}
+use Rattle.rdb_page.specs.rdb_types.declared.keys.LineState.{LineState}
+use Rattle.rdb_page.specs.rdb_types.declared.keys.LineState.TheVariants.{Never, Present, Erased}
 use Rattle.snapshot_file.specs.declared.entry.SnapEntry.{SnapEntry}
 
 -- SNPE

@@ -1,3 +1,5 @@
+pub use Rattle.line_view.proofs as of_line_view
+pub use Rattle.index_node.proofs.of_record_format as of_record_format
 pub mod Intervals
 pub mod Children
 pub mod Walk

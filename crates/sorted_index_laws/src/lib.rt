@@ -6,5 +6,7 @@ mod laws;
 mod stop;
 
 pub use bounds::Bounds;
+pub use index_node::record_format;
 pub use laws::{pairs_are_ordered, the_way_is_in_the_index};
+pub use line_view;
 pub use stop::{Duplicate, IndexStop};

@@ -5,8 +5,8 @@ use Rattle.rdb_meaning.specs.declared.tables.Tables.{Tables}
 use Rattle.line_view.specs.Knowledge.{Lines}
 use Rattle.catalog_lines.specs.declared.line.CatalogLine.{CatalogLine}
 use Rattle.catalog_lines.specs.declared.line.CatalogLine.TheVariants.{Relation, Global, Field as FieldOf, Index}
-use Rattle.catalog.specs.declared.directory.PlacedLine.{PlacedLine}
-use Rattle.catalog.specs.declared.reading.Catalog.{Catalog}
+use Rattle.sound_lines.specs.catalog.declared.directory.PlacedLine.{PlacedLine}
+use Rattle.sound_lines.specs.catalog.declared.reading.Catalog.{Catalog}
 use Rattle.sound_lines.specs.Sound.{relation_in, IsSoundIndex, IsSoundLine, IsSound}
 use Rattle.sound_lines.specs.Contents.{AreTablesOf}
 use Rattle.line_view.specs.Knowledge.{IsInOrder}

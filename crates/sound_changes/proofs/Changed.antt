@@ -13,10 +13,10 @@ use Rattle.rdb_meaning.specs.declared.tables.Relation.{Relation as Rows}
 use Rattle.rdb_meaning.specs.declared.tables.Tables.{Tables}
 use Rattle.rdb_meaning.specs.Contents.{Row}
 use Rattle.line_view.specs.Knowledge.{Lines, lines_in, keys_of, laid}
-use Rattle.catalog.specs.declared.directory.Directory.{Directory}
-use Rattle.relation_rows.specs.declared.stored.StoredRelation.{StoredRelation}
-use Rattle.relation_rows.specs.Stored.{AreRowsOf}
-use Rattle.relation_rows.specs.Relations.{stored_row, HasRows}
+use Rattle.sound_lines.specs.catalog.declared.directory.Directory.{Directory}
+use Rattle.sound_lines.specs.relation_rows.declared.stored.StoredRelation.{StoredRelation}
+use Rattle.sound_lines.specs.relation_rows.Stored.{AreRowsOf}
+use Rattle.sound_lines.specs.relation_rows.Relations.{stored_row, HasRows}
 use Rattle.sound_lines.specs.Contents.{version_of, stored, HaveRows}
 use Rattle.sound_lines.proofs.Gathering.{keys, same_sorted}
 use Rattle.sound_changes.proofs.Basics.{equal, less, none_below}

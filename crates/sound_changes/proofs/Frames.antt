@@ -12,17 +12,17 @@ use Rattle.line_view.specs.Knowledge.{Lines, lines_in, keys_of, laid}
 use Rattle.line_view.proofs.FullMap.{other_area}
 use Rattle.line_view.proofs.Written.{same_line}
 use Rattle.catalog_lines.specs.declared.line.IndexLine.{IndexLine}
-use Rattle.catalog.specs.declared.directory.PlacedLine.{PlacedLine}
-use Rattle.catalog.specs.declared.reading.Catalog.{Catalog}
-use Rattle.catalog.specs.Reading.{catalog_area, line_keys, IsPresent, IsCatalogOf}
-use Rattle.relation_rows.specs.declared.stored.StoredRelation.{StoredRelation}
-use Rattle.relation_rows.specs.Stored.{AreRowsOf}
-use Rattle.relation_rows.specs.Relations.{stored_row, HasRows}
-use Rattle.sorted_index_laws.specs.Tree.{Tree, places, IsIndex}
-use Rattle.sorted_index_laws.proofs.Frame.{stands_beside}
-use Rattle.sorted_index_laws.proofs.After.{areas}
+use Rattle.sound_lines.specs.catalog.declared.directory.PlacedLine.{PlacedLine}
+use Rattle.sound_lines.specs.catalog.declared.reading.Catalog.{Catalog}
+use Rattle.sound_lines.specs.catalog.Reading.{catalog_area, line_keys, IsPresent, IsCatalogOf}
+use Rattle.sound_lines.specs.relation_rows.declared.stored.StoredRelation.{StoredRelation}
+use Rattle.sound_lines.specs.relation_rows.Stored.{AreRowsOf}
+use Rattle.sound_lines.specs.relation_rows.Relations.{stored_row, HasRows}
+use Rattle.sound_lines.specs.sorted_index_laws.Tree.{Tree, places, IsIndex}
+use Rattle.sound_lines.proofs.of_sorted_index_laws.Frame.{stands_beside}
+use Rattle.sound_lines.proofs.of_sorted_index_laws.After.{areas}
 use Rattle.sound_lines.specs.Sound.{IsSoundIndex}
-use Rattle.relation_rows.specs.Indexed.{IsIndexOf}
+use Rattle.sound_lines.specs.relation_rows.Indexed.{IsIndexOf}
 use Rattle.sound_changes.proofs.Basics.{keys_apart, all_of, both_of}
 
 -- ---- the catalog

@@ -16,14 +16,14 @@ use Rattle.rdb_meaning.specs.Execution.{area_of, may_be_given, nowhere}
 use Rattle.line_view.specs.Knowledge.{Lines, line_in, lines_in, keys_of}
 use Rattle.catalog_lines.specs.declared.line.CatalogLine.{CatalogLine}
 use Rattle.catalog_lines.specs.Lines.{IsRelationArea}
-use Rattle.catalog.specs.declared.reading.Catalog.{Catalog}
-use Rattle.sorted_index_laws.specs.Changes.{has_key}
+use Rattle.sound_lines.specs.catalog.declared.reading.Catalog.{Catalog}
+use Rattle.sound_lines.specs.sorted_index_laws.Changes.{has_key}
 use Rattle.sound_lines.specs.Contents.{versions_in}
 use Rattle.sound_changes.specs.Standing.{IsSoundFor, IsSoundAs}
 use Rattle.sound_changes.proofs.Changed.{row_keys, rows_in}
 use Rattle.sound_changes.proofs.RowLaid.{stored_in, found}
 use Rattle.sound_changes.proofs.Pairs.{keys_held}
-use Rattle.relation_rows.specs.Indexed.{pairs_of}
+use Rattle.sound_lines.specs.relation_rows.Indexed.{pairs_of}
 use Rattle.rdb_types.specs.OrderLaws.{same_dbkey}
 use Rattle.sound_changes.proofs.PairsOut.{left}
 

@@ -9,8 +9,8 @@ use Rattle.rdb_types.specs.declared.values.Value.{Value}
 use Rattle.rdb_types.specs.declared.values.Value.TheVariants.{Missing}
 use Rattle.rdb_types.specs.declared.values.Field.{Field}
 use Rattle.record_format.specs.Rows.{IsRowImage}
-use Rattle.relation_rows.specs.declared.stored.StoredRelation.{StoredRelation}
-use Rattle.relation_rows.specs.Stored.{are_values_of, count_in, completed, IsRowOf}
+use Rattle.sound_lines.specs.relation_rows.declared.stored.StoredRelation.{StoredRelation}
+use Rattle.sound_lines.specs.relation_rows.Stored.{are_values_of, count_in, completed, IsRowOf}
 use Rattle.sound_lines.specs.Sound.{versions_rise}
 
 at_most : (m n : ℕ) → nat_le m n ≡ true → m ≤ n

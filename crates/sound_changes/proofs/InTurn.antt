@@ -11,8 +11,8 @@ use Rattle.line_view.specs.Knowledge.{Lines, line_in, laid}
 use Rattle.line_view.specs.declared.writes.Write.{Write}
 use Rattle.line_view.specs.Writes.{laid_all}
 use Rattle.catalog_lines.specs.declared.line.IndexLine.{IndexLine}
-use Rattle.catalog.specs.declared.reading.Catalog.{Catalog}
-use Rattle.relation_rows.specs.Stored.{IsRowOf}
+use Rattle.sound_lines.specs.catalog.declared.reading.Catalog.{Catalog}
+use Rattle.sound_lines.specs.relation_rows.Stored.{IsRowOf}
 use Rattle.sound_lines.specs.Contents.{versions_in, version_of, stored}
 use Rattle.sound_changes.specs.Standing.{IsSoundFor, IsSoundAs, tables_for}
 use Rattle.sound_changes.specs.InTurn.{IsPairPut, IsPairMoved, IsPairTaken, Turn, InTurn, laid_in_turn, IsIndexOn, AreIndexesOn}

@@ -18,13 +18,13 @@ use Rattle.catalog_lines.specs.declared.line.CatalogLine.{CatalogLine}
 use Rattle.catalog_lines.specs.declared.line.CatalogLine.TheVariants.{Relation, Global, Field as FieldOf, Index}
 use Rattle.catalog_lines.specs.Lines.{IsCatalogLine, IsIndexArea, IsAllowedLine}
 use Rattle.catalog_lines.proofs.Lines.{one_line}
-use Rattle.catalog.specs.declared.directory.PlacedLine.{PlacedLine}
-use Rattle.catalog.specs.declared.directory.Directory.{Directory}
-use Rattle.catalog.specs.declared.reading.Catalog.{Catalog}
-use Rattle.catalog.specs.Directory.{area_order, numbered, directory}
-use Rattle.catalog.specs.Schema.{catalog_tables, stands}
-use Rattle.catalog.specs.Reading.{catalog_area, IsCatalogOf}
-use Rattle.catalog.proofs.Differences.{index_parts, one_key}
+use Rattle.sound_lines.specs.catalog.declared.directory.PlacedLine.{PlacedLine}
+use Rattle.sound_lines.specs.catalog.declared.directory.Directory.{Directory}
+use Rattle.sound_lines.specs.catalog.declared.reading.Catalog.{Catalog}
+use Rattle.sound_lines.specs.catalog.Directory.{area_order, numbered, directory}
+use Rattle.sound_lines.specs.catalog.Schema.{catalog_tables, stands}
+use Rattle.sound_lines.specs.catalog.Reading.{catalog_area, IsCatalogOf}
+use Rattle.sound_lines.proofs.of_catalog.Differences.{index_parts, one_key}
 use Rattle.sound_lines.specs.Contents.{versions_in, version_of, stored, HaveRows, AreTablesWith}
 use Rattle.sound_lines.specs.Sound.{relation_in, IsSoundIndex, IsSoundLine, IsOwned}
 use Rattle.sound_changes.specs.Standing.{IsSoundFor, tables_for}

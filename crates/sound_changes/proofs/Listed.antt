@@ -10,9 +10,9 @@ use Rattle.rdb_types.specs.Order.{dbkey_order}
 use Rattle.line_view.specs.Knowledge.{Lines, line_in, lines_in, keys_of}
 use Rattle.catalog_lines.specs.Lines.{IsCatalogLine}
 use Rattle.catalog_lines.proofs.Lines.{one_line}
-use Rattle.catalog.specs.declared.directory.PlacedLine.{PlacedLine}
-use Rattle.catalog.specs.declared.reading.Catalog.{Catalog}
-use Rattle.catalog.specs.Reading.{catalog_area, line_keys, IsPresent, AreCatalogLines, IsCatalogOf}
+use Rattle.sound_lines.specs.catalog.declared.directory.PlacedLine.{PlacedLine}
+use Rattle.sound_lines.specs.catalog.declared.reading.Catalog.{Catalog}
+use Rattle.sound_lines.specs.catalog.Reading.{catalog_area, line_keys, IsPresent, AreCatalogLines, IsCatalogOf}
 use Rattle.sound_changes.proofs.Basics.{equal, both_of}
 use Rattle.sound_changes.proofs.Frames.{in_area}
 use Rattle.rdb_types.specs.OrderLaws.{same_dbkey}

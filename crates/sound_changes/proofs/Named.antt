@@ -20,13 +20,13 @@ use Rattle.catalog_lines.specs.declared.line.CatalogLine.{CatalogLine}
 use Rattle.catalog_lines.specs.declared.line.CatalogLine.TheVariants.{Relation, Global, Field as FieldOf, Index}
 use Rattle.catalog_lines.specs.Lines.{IsCatalogLine}
 use Rattle.catalog_lines.proofs.Lines.{one_line}
-use Rattle.catalog.specs.declared.directory.PlacedLine.{PlacedLine}
-use Rattle.catalog.specs.declared.directory.Directory.{Directory}
-use Rattle.catalog.specs.declared.reading.Catalog.{Catalog}
-use Rattle.catalog.specs.Directory.{area_order, numbered, directory}
-use Rattle.catalog.specs.Schema.{with_thing, tables_from, catalog_tables, relation_fields, stands, misfit_from}
-use Rattle.catalog.specs.Reading.{catalog_area, IsPresent, IsCatalogOf}
-use Rattle.catalog.proofs.Differences.{relation_parts, one_key}
+use Rattle.sound_lines.specs.catalog.declared.directory.PlacedLine.{PlacedLine}
+use Rattle.sound_lines.specs.catalog.declared.directory.Directory.{Directory}
+use Rattle.sound_lines.specs.catalog.declared.reading.Catalog.{Catalog}
+use Rattle.sound_lines.specs.catalog.Directory.{area_order, numbered, directory}
+use Rattle.sound_lines.specs.catalog.Schema.{with_thing, tables_from, catalog_tables, relation_fields, stands, misfit_from}
+use Rattle.sound_lines.specs.catalog.Reading.{catalog_area, IsPresent, IsCatalogOf}
+use Rattle.sound_lines.proofs.of_catalog.Differences.{relation_parts, one_key}
 use Rattle.sound_lines.specs.Sound.{relation_in}
 use Rattle.sound_changes.proofs.Frames.{in_area as lines_in_area}
 use Rattle.rdb_types.specs.OrderLaws.{chars_total, same_chars}

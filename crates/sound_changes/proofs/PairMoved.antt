@@ -16,13 +16,13 @@ use Rattle.line_view.specs.Writes.{laid_all}
 use Rattle.line_view.proofs.Written.{laid_in_turn}
 use Rattle.catalog_lines.specs.declared.line.IndexLine.{IndexLine}
 use Rattle.catalog_lines.specs.declared.line.CatalogLine.TheVariants.{Index}
-use Rattle.catalog.specs.declared.directory.PlacedLine.{PlacedLine}
-use Rattle.catalog.specs.declared.reading.Catalog.{Catalog}
-use Rattle.catalog.specs.Directory.{directory}
-use Rattle.catalog.specs.Schema.{catalog_tables, stands}
-use Rattle.sorted_index_laws.specs.Tree.{pairs}
-use Rattle.sorted_index_laws.specs.Changes.{pair_of, with_pair, without_pair, has_key, Leaves}
-use Rattle.sorted_index_laws.proofs.Ordered.{all_append}
+use Rattle.sound_lines.specs.catalog.declared.directory.PlacedLine.{PlacedLine}
+use Rattle.sound_lines.specs.catalog.declared.reading.Catalog.{Catalog}
+use Rattle.sound_lines.specs.catalog.Directory.{directory}
+use Rattle.sound_lines.specs.catalog.Schema.{catalog_tables, stands}
+use Rattle.sound_lines.specs.sorted_index_laws.Tree.{pairs}
+use Rattle.sound_lines.specs.sorted_index_laws.Changes.{pair_of, with_pair, without_pair, has_key, Leaves}
+use Rattle.sound_lines.proofs.of_sorted_index_laws.Ordered.{all_append}
 use Rattle.sound_lines.specs.Sound.{relation_in, IsSoundIndex}
 use Rattle.sound_changes.specs.Standing.{IsSoundFor, tables_for}
 use Rattle.sound_changes.proofs.Basics.{all_of}

@@ -20,21 +20,21 @@ use Rattle.line_view.specs.declared.writes.Write.{Write}
 use Rattle.line_view.specs.Writes.{laid_all}
 use Rattle.catalog_lines.specs.declared.line.IndexLine.{IndexLine}
 use Rattle.catalog_lines.specs.declared.line.CatalogLine.TheVariants.{Index}
-use Rattle.catalog.specs.declared.directory.PlacedLine.{PlacedLine}
-use Rattle.catalog.specs.declared.reading.Catalog.{Catalog}
-use Rattle.catalog.specs.Directory.{directory}
-use Rattle.catalog.specs.Schema.{catalog_tables, stands}
-use Rattle.sorted_index_laws.specs.Tree.{pairs}
-use Rattle.sorted_index_laws.specs.Changes.{pair_of, with_pair, has_key, Leaves}
-use Rattle.sorted_index_laws.specs.Insertion.{IsNew}
-use Rattle.sorted_index_laws.proofs.Lines.{other_way}
+use Rattle.sound_lines.specs.catalog.declared.directory.PlacedLine.{PlacedLine}
+use Rattle.sound_lines.specs.catalog.declared.reading.Catalog.{Catalog}
+use Rattle.sound_lines.specs.catalog.Directory.{directory}
+use Rattle.sound_lines.specs.catalog.Schema.{catalog_tables, stands}
+use Rattle.sound_lines.specs.sorted_index_laws.Tree.{pairs}
+use Rattle.sound_lines.specs.sorted_index_laws.Changes.{pair_of, with_pair, has_key, Leaves}
+use Rattle.sound_lines.specs.sorted_index_laws.Insertion.{IsNew}
+use Rattle.sound_lines.proofs.of_sorted_index_laws.Lines.{other_way}
 use Rattle.sound_lines.specs.Sound.{relation_in, IsSoundIndex, IsSoundLine}
 use Rattle.sound_changes.specs.Standing.{IsSoundFor, tables_for}
 use Rattle.sound_changes.proofs.Basics.{all_of}
 use Rattle.sound_changes.proofs.Named.{Fits, all_fit, root_area, in_area}
 use Rattle.sound_changes.proofs.RowLaid.{found}
 use Rattle.sound_changes.proofs.Pairs.{all_with, pairs_put, keys_held, none_twice, rows_apart}
-use Rattle.relation_rows.specs.Indexed.{pairs_of}
+use Rattle.sound_lines.specs.relation_rows.Indexed.{pairs_of}
 use Rattle.rdb_types.specs.OrderLaws.{chars_total}
 use Rattle.sound_changes.proofs.IndexLaid.{at_place, index_done}
 

@@ -15,9 +15,9 @@ use Rattle.rdb_meaning.specs.Defining.{keys_repeat}
 use Rattle.index_node.specs.declared.entry.NodeEntry.{NodeEntry}
 use Rattle.index_node.specs.Order.{entry_order}
 use Rattle.index_node.specs.OrderLaws.{entries_total}
-use Rattle.relation_rows.specs.Indexed.{pairs_of}
+use Rattle.sound_lines.specs.relation_rows.Indexed.{pairs_of}
 use Rattle.rdb_types.specs.OrderLaws.{row_total}
-use Rattle.sorted_index_laws.specs.Changes.{pair_of, with_pair, has_key}
+use Rattle.sound_lines.specs.sorted_index_laws.Changes.{pair_of, with_pair, has_key}
 use Rattle.sound_changes.proofs.Basics.{less}
 
 -- ---- pairs are put in any order

@@ -18,15 +18,15 @@ use Rattle.catalog_lines.specs.declared.line.IndexLine.{IndexLine}
 use Rattle.catalog_lines.specs.declared.line.CatalogLine.{CatalogLine}
 use Rattle.catalog_lines.specs.declared.line.CatalogLine.TheVariants.{Relation, Global, Field as FieldOf, Index}
 use Rattle.catalog_lines.specs.Lines.{IsRelationArea, IsIndexArea, IsAllowedLine}
-use Rattle.catalog.specs.declared.directory.PlacedLine.{PlacedLine}
-use Rattle.catalog.specs.declared.directory.Directory.{Directory}
-use Rattle.catalog.specs.declared.reading.Catalog.{Catalog}
-use Rattle.catalog.specs.Directory.{directory}
-use Rattle.catalog.specs.Schema.{catalog_tables, stands}
-use Rattle.catalog.specs.Reading.{catalog_area, IsCatalogOf}
-use Rattle.relation_rows.specs.declared.stored.StoredRelation.{StoredRelation}
-use Rattle.relation_rows.specs.Stored.{IsRowOf, AreRowsOf}
-use Rattle.relation_rows.specs.Relations.{stored_row, HasRows}
+use Rattle.sound_lines.specs.catalog.declared.directory.PlacedLine.{PlacedLine}
+use Rattle.sound_lines.specs.catalog.declared.directory.Directory.{Directory}
+use Rattle.sound_lines.specs.catalog.declared.reading.Catalog.{Catalog}
+use Rattle.sound_lines.specs.catalog.Directory.{directory}
+use Rattle.sound_lines.specs.catalog.Schema.{catalog_tables, stands}
+use Rattle.sound_lines.specs.catalog.Reading.{catalog_area, IsCatalogOf}
+use Rattle.sound_lines.specs.relation_rows.declared.stored.StoredRelation.{StoredRelation}
+use Rattle.sound_lines.specs.relation_rows.Stored.{IsRowOf, AreRowsOf}
+use Rattle.sound_lines.specs.relation_rows.Relations.{stored_row, HasRows}
 use Rattle.sound_lines.specs.Contents.{versions_in, version_of, stored, AreTablesWith}
 use Rattle.sound_lines.specs.Sound.{relation_in, IsSoundRelation, IsSoundIndex, IsSoundLine, IsOwned}
 use Rattle.sound_lines.proofs.LaidRows.{row_put, row_erased}

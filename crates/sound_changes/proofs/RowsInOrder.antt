@@ -8,7 +8,7 @@ use Rattle.rdb_meaning.specs.declared.tables.Tables.{Tables}
 use Rattle.rdb_meaning.specs.Contents.{relation_named}
 use Rattle.line_view.specs.Knowledge.{Lines, lines_in}
 use Rattle.catalog_lines.specs.declared.line.CatalogLine.{CatalogLine}
-use Rattle.catalog.specs.declared.reading.Catalog.{Catalog}
+use Rattle.sound_lines.specs.catalog.declared.reading.Catalog.{Catalog}
 use Rattle.sound_lines.specs.Contents.{versions_in}
 use Rattle.sound_lines.proofs.Gathering.{same_sorted, true_from_T}
 use Rattle.sound_changes.specs.Standing.{IsSoundFor}

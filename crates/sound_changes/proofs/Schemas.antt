@@ -9,8 +9,8 @@ use Rattle.rdb_meaning.specs.declared.tables.Relation.{Relation as Rows}
 use Rattle.rdb_meaning.specs.declared.tables.Tables.{Tables}
 use Rattle.rdb_meaning.specs.Contents.{Row, relation_named, rows_changed, with_rows}
 use Rattle.line_view.specs.Knowledge.{Lines}
-use Rattle.catalog.specs.declared.reading.Catalog.{Catalog}
-use Rattle.relation_rows.specs.Relations.{HasRows}
+use Rattle.sound_lines.specs.catalog.declared.reading.Catalog.{Catalog}
+use Rattle.sound_lines.specs.relation_rows.Relations.{HasRows}
 use Rattle.sound_lines.specs.Contents.{versions_in, version_of, stored, HaveRows, AreTablesWith}
 use Rattle.schema_alone.specs.Schema.{bare, OneSchema}
 use Rattle.rdb_types.specs.Order.{chars_order}

@@ -15,13 +15,13 @@ use Rattle.line_view.specs.Knowledge.{Lines}
 use Rattle.catalog_lines.specs.declared.line.RelationLine.{RelationLine}
 use Rattle.catalog_lines.specs.declared.line.CatalogLine.{CatalogLine}
 use Rattle.catalog_lines.specs.declared.line.CatalogLine.TheVariants.{Relation, Global, Field as FieldOf, Index}
-use Rattle.catalog.specs.declared.directory.PlacedLine.{PlacedLine}
-use Rattle.catalog.specs.declared.directory.Directory.{Directory}
-use Rattle.catalog.specs.declared.reading.Catalog.{Catalog}
-use Rattle.catalog.specs.Directory.{area_order, numbered, directory}
-use Rattle.catalog.specs.Schema.{stands, catalog_tables}
-use Rattle.catalog.specs.Reading.{catalog_area, IsPresent, IsCatalogOf}
-use Rattle.catalog.proofs.Differences.{relation_parts, one_key}
+use Rattle.sound_lines.specs.catalog.declared.directory.PlacedLine.{PlacedLine}
+use Rattle.sound_lines.specs.catalog.declared.directory.Directory.{Directory}
+use Rattle.sound_lines.specs.catalog.declared.reading.Catalog.{Catalog}
+use Rattle.sound_lines.specs.catalog.Directory.{area_order, numbered, directory}
+use Rattle.sound_lines.specs.catalog.Schema.{stands, catalog_tables}
+use Rattle.sound_lines.specs.catalog.Reading.{catalog_area, IsPresent, IsCatalogOf}
+use Rattle.sound_lines.proofs.of_catalog.Differences.{relation_parts, one_key}
 use Rattle.sound_lines.specs.Contents.{with_version, versions_from, versions_in, version_of}
 use Rattle.sound_lines.specs.Sound.{relation_in, versions_rise, IsSoundRelation, IsSoundLine}
 use Rattle.sound_changes.specs.Standing.{IsSoundAs}

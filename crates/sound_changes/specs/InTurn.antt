@@ -9,10 +9,10 @@ use Rattle.line_view.specs.declared.writes.Write.{Write}
 use Rattle.line_view.specs.Writes.{laid_all}
 use Rattle.catalog_lines.specs.declared.line.IndexLine.{IndexLine}
 use Rattle.catalog_lines.specs.declared.line.CatalogLine.TheVariants.{Index}
-use Rattle.catalog.specs.declared.directory.PlacedLine.{PlacedLine}
-use Rattle.catalog.specs.declared.reading.Catalog.{Catalog}
-use Rattle.sorted_index_laws.specs.Tree.{pairs}
-use Rattle.sorted_index_laws.specs.Changes.{pair_of, with_pair, without_pair, has_key, Leaves}
+use Rattle.sound_lines.specs.catalog.declared.directory.PlacedLine.{PlacedLine}
+use Rattle.sound_lines.specs.catalog.declared.reading.Catalog.{Catalog}
+use Rattle.sound_lines.specs.sorted_index_laws.Tree.{pairs}
+use Rattle.sound_lines.specs.sorted_index_laws.Changes.{pair_of, with_pair, without_pair, has_key, Leaves}
 use Rattle.sound_lines.specs.Sound.{IsSoundIndex}
 use Rattle.sound_changes.specs.Standing.{IsDone}
 

@@ -1,3 +1,4 @@
+pub use Rattle.sound_definitions.proofs as of_sound_definitions
 pub mod Common
 pub mod Fields
 pub mod Relations

@@ -2,8 +2,8 @@
 use Rattle.std.proofs.Common.{ℕ, ◌≡◌, ◌≢◌, ◌≤◌, ◌<◌, ◌+◌, ◌-◌, ◌∙◌, ◌⊎◌, List, [], ◌∷◌, length, take, drop, replicate, arith, inl, inr, ⊎_elim, refl, nat_lt, nat_eq, true, false, Bool, if◌then◌else◌}
 use Rattle.std.proofs.lemmas.Bool.Decides.{nat_tests}
 use Rattle.std.proofs.Math.Seq.{take-length}
-use Rattle.slot_fields.specs.Fields.{Field, number, number_at}
-use Rattle.slot_fields.proofs.Laws.{number_before, number_behind, zero_number, zeros_within}
+use Rattle.area_files.specs.slot_fields.Fields.{Field, number, number_at}
+use Rattle.area_files.proofs.of_slot_fields.Laws.{number_before, number_behind, zero_number, zeros_within}
 use Rattle.area_files.specs.Areas.{IsDataPage, space_page_of, index_of}
 use Rattle.space_pages.specs.Space.{entry_place, level_at, owner_of, level_of, entries_of, HasNoMore, IsWritten, IsSpace, IsBeside}
 

@@ -1,6 +1,6 @@
 -- Space-management pages.
 use Rattle.std.specs.Prelude.{ℕ, ◌+◌, ◌-◌, ◌*◌, ◌<◌, ◌≤◌, ◌≡◌, ◌≢◌, ◌⊎◌, List, [], ◌∷◌, length, replicate, if◌then◌else◌, nat_lt, nat_eq}
-use Rattle.slot_fields.specs.Fields.{Field, number, text, gap, HasPart, number_at}
+use Rattle.area_files.specs.slot_fields.Fields.{Field, number, text, gap, HasPart, number_at}
 use Rattle.area_files.specs.Areas.{IsDataPage, IsSpacePage, space_page_of, index_of}
 
 -- SPAM

@@ -3,9 +3,9 @@ use Rattle.std.proofs.Common.{◌≡◌, ℕ, ◌+◌, ◌≤◌, ◌<◌, List,
 use Rattle.std.proofs.lemmas.Option.{slice_get_within}
 use Rattle.rdb_types.specs.declared.keys.Dbkey.{Dbkey}
 use Rattle.rdb_types.specs.declared.keys.Line.{Line}
-use Rattle.aij_journal.specs.declared.part.AijPart.{AijPart}
-use Rattle.aij_journal.specs.Header.{IsHeader}
-use Rattle.journal_scan.specs.Standing.{what_stands}
+use Rattle.new_database.specs.aij_journal.declared.part.AijPart.{AijPart}
+use Rattle.new_database.specs.aij_journal.Header.{IsHeader}
+use Rattle.journal_reading.specs.journal_scan.Standing.{what_stands}
 use Rattle.new_database.specs.Maker.{aij_file}
 use Rattle.stable_lines.specs.Slots.{ruj_file, area_file, IsMember, named}
 use Rattle.stable_lines.specs.Journal.{Journal, next_number}

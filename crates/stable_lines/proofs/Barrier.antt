@@ -1,9 +1,9 @@
 -- What a barrier gains: only the content is left, so what is known of it holds of all that a crash may leave.
 use Rattle.std.proofs.Common.{◌≡◌, ◌≢◌, ℕ, ◌+◌, ◌≤◌, ◌<◌, List, length, Some, None, slice_get, ⊎_elim, sym, ◌∙◌, ap, subst}
-use Rattle.rdb_outside.specs.Disk.{Image}
+use Rattle.journal_reading.specs.rdb_outside.Disk.{Image}
 use Rattle.ruj_journal.specs.Entry.{IsEntry}
-use Rattle.aij_journal.specs.declared.part.AijPart.{AijPart}
-use Rattle.journal_scan.specs.Standing.{what_stands}
+use Rattle.new_database.specs.aij_journal.declared.part.AijPart.{AijPart}
+use Rattle.journal_reading.specs.journal_scan.Standing.{what_stands}
 use Rattle.new_database.specs.Maker.{aij_file}
 use Rattle.stable_lines.specs.Slots.{ruj_file, line_on, line_at, named, Undo, entry_at}
 use Rattle.stable_lines.specs.Journal.{next_number, next_slot, commit_of}

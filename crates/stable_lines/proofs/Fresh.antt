@@ -6,18 +6,18 @@ use Rattle.rdb_types.specs.declared.keys.Dbkey.{Dbkey}
 use Rattle.rdb_types.specs.declared.keys.Limits.{Limits}
 use Rattle.rdb_types.specs.declared.keys.Line.{Line}
 use Rattle.rdb_types.specs.File.{slot_bytes}
-use Rattle.rdb_outside.specs.Disk.{Image, zeros}
+use Rattle.journal_reading.specs.rdb_outside.Disk.{Image, zeros}
 use Rattle.byteorder.specs.Endian.{little_from}
 use Rattle.slot_fields.specs.Fields.{number_at}
 use Rattle.slot_fields.proofs.Laws.{word_not_zeros}
-use Rattle.rdb_page.specs.Lines.{never}
+use Rattle.ruj_journal.specs.rdb_page.Lines.{never}
 use Rattle.ruj_journal.specs.declared.entry.RujEntry.{RujEntry}
 use Rattle.ruj_journal.specs.Entry.{IsEntry}
-use Rattle.aij_journal.specs.declared.part.AijPart.{AijPart}
-use Rattle.aij_journal.specs.Part.{IsPart}
-use Rattle.journal_scan.specs.Standing.{what_stands}
-use Rattle.journal_scan.specs.Whole.{Holds}
-use Rattle.journal_scan.proofs.Stands.{stands}
+use Rattle.new_database.specs.aij_journal.declared.part.AijPart.{AijPart}
+use Rattle.new_database.specs.aij_journal.Part.{IsPart}
+use Rattle.journal_reading.specs.journal_scan.Standing.{what_stands}
+use Rattle.journal_reading.specs.journal_scan.Whole.{Holds}
+use Rattle.journal_reading.proofs.of_journal_scan.Stands.{stands}
 use Rattle.new_database.specs.New.{new_root, IsNewDatabase}
 use Rattle.new_database.specs.Maker.{aij_file}
 use Rattle.stable_lines.specs.Slots.{ruj_file, area_file, slot_of, owner_at, line_at, named}

@@ -6,8 +6,8 @@ use Rattle.rdb_types.specs.declared.file.FileKind.TheVariants.{Root, Area, Ruj, 
 use Rattle.rdb_types.specs.declared.keys.Dbkey.{Dbkey}
 use Rattle.rdb_types.specs.declared.keys.Tsn.{Tsn}
 use Rattle.rdb_types.specs.declared.keys.Line.{Line}
-use Rattle.root_file.specs.declared.Root.{Root as RootValue}
-use Rattle.root_file.specs.Root.{IsRoot}
+use Rattle.new_database.specs.root_file.declared.Root.{Root as RootValue}
+use Rattle.new_database.specs.root_file.Root.{IsRoot}
 use Rattle.ruj_journal.specs.declared.entry.RujEntry.{RujEntry}
 use Rattle.ruj_journal.specs.Entry.{IsEntry}
 use Rattle.ruj_journal.proofs.Readings.{one_entry}

@@ -2,8 +2,8 @@
 use Rattle.std.proofs.Common.{◌≡◌, ℕ, ◌+◌, ◌≤◌, ◌<◌, List, length, Some, None, ◌⊎◌, inl, inr, ⊎_elim, sym, ◌∙◌, ap, arith}
 use Rattle.std.proofs.lemmas.Option.{slice_get_within}
 use Rattle.rdb_types.specs.declared.file.FileKind.TheVariants.{Root, Area, Ruj, Aij}
-use Rattle.aij_journal.specs.declared.part.AijPart.{AijPart}
-use Rattle.journal_scan.specs.Standing.{what_stands}
+use Rattle.new_database.specs.aij_journal.declared.part.AijPart.{AijPart}
+use Rattle.journal_reading.specs.journal_scan.Standing.{what_stands}
 use Rattle.new_database.specs.Maker.{aij_file}
 use Rattle.stable_lines.specs.Journal.{Journal, slots_in, next_number, next_slot, commit_of}
 use Rattle.stable_lines.specs.Progress.{Flight, Progress}

@@ -8,8 +8,8 @@ use Rattle.std.specs.FinMap.Entries.{is_sorted-put, is_sorted-where_key}
 use Rattle.rdb_types.specs.declared.keys.Dbkey.{Dbkey}
 use Rattle.rdb_types.specs.Order.{dbkey_order}
 use Rattle.rdb_types.specs.OrderLaws.{dbkey_total, same_dbkey}
-use Rattle.aij_journal.specs.declared.part.GroupLine.{GroupLine}
-use Rattle.journal_scan.specs.declared.group.Group.{Group}
+use Rattle.new_database.specs.aij_journal.declared.part.GroupLine.{GroupLine}
+use Rattle.journal_reading.specs.journal_scan.declared.group.Group.{Group}
 use Rattle.line_view.specs.Knowledge.{Lines, IsInOrder, line_in, laid}
 use Rattle.line_view.specs.Writes.{laid_all}
 use Rattle.line_view.proofs.FullMap.{laid_found}

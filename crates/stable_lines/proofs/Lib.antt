@@ -1,3 +1,5 @@
+pub use Rattle.journal_reading.proofs.of_journal_scan as of_journal_scan
+pub use Rattle.ruj_journal.proofs as of_ruj_journal
 pub mod Lists
 pub mod Fewer
 pub mod Elsewhere

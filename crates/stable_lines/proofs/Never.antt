@@ -6,8 +6,8 @@ use Rattle.rdb_types.specs.declared.keys.Line.{Line}
 use Rattle.slot_fields.specs.Fields.{number_at}
 use Rattle.byteorder.specs.Endian.{little_from}
 use Rattle.slot_fields.proofs.Laws.{zero_number}
-use Rattle.rdb_page.specs.Lines.{line_place, never}
-use Rattle.rdb_page.specs.Page.{class_at}
+use Rattle.ruj_journal.specs.rdb_page.Lines.{line_place, never}
+use Rattle.ruj_journal.specs.rdb_page.Page.{class_at}
 use Rattle.space_pages.specs.Space.{IsSpace}
 use Rattle.line_view.specs.Knowledge.{line_in}
 use Rattle.stable_lines.specs.Slots.{said_at, line_on, owner_at}

@@ -4,21 +4,21 @@ use Rattle.std.proofs.lemmas.Option.{slice_get_cases}
 use Rattle.rdb_types.specs.declared.keys.Dbkey.{Dbkey}
 use Rattle.rdb_types.specs.declared.keys.Tsn.{Tsn}
 use Rattle.rdb_types.specs.declared.keys.Line.{Line}
-use Rattle.rdb_outside.specs.Disk.{Image}
-use Rattle.root_file.specs.Root.{IsRoot}
+use Rattle.journal_reading.specs.rdb_outside.Disk.{Image}
+use Rattle.new_database.specs.root_file.Root.{IsRoot}
 use Rattle.space_pages.specs.Space.{IsSpace, owner_of}
 use Rattle.ruj_journal.specs.declared.entry.RujEntry.{RujEntry}
 use Rattle.ruj_journal.specs.Entry.{IsEntry}
 use Rattle.ruj_journal.proofs.Readings.{one_entry}
-use Rattle.aij_journal.specs.Header.{IsHeader}
-use Rattle.journal_scan.specs.Standing.{what_stands}
+use Rattle.new_database.specs.aij_journal.Header.{IsHeader}
+use Rattle.journal_reading.specs.journal_scan.Standing.{what_stands}
 use Rattle.line_view.specs.Knowledge.{Lines, line_in}
 use Rattle.new_database.specs.Maker.{root_file}
 use Rattle.line_versions.specs.Lines.{shown}
 use Rattle.stable_lines.specs.Slots.{ruj_file, owner_at, line_on, line_at, named, Undo, entry_at}
 use Rattle.stable_lines.specs.Journal.{Journal, has_group}
 use Rattle.stable_lines.specs.Image.{IsEnded, IsOpenAt, HasEntries, IsBefore, HasNoBefore, LineIs, as_it_stands, put_back, not_found}
-use Rattle.rdb_page.specs.Whole.{IsPageOf}
+use Rattle.ruj_journal.specs.rdb_page.Whole.{IsPageOf}
 use Rattle.stable_lines.specs.Kept.{Kept, IsRujHeader, FitsClass, IsUndone}
 use Rattle.stable_lines.specs.Progress.{Open, Progress}
 use Rattle.stable_lines.specs.Facts.{PendingContents, Only, IsNotOpen, IsCommitted, IsChanged, OpenFacts, RootStands, PageFacts, BelowFacts, Facts}

@@ -3,18 +3,18 @@ use Rattle.std.proofs.Common.{◌≡◌, ℕ, zero, suc, ◌+◌, ◌≤◌, ◌
 use Rattle.std.proofs.lemmas.Option.{slice_get_within}
 use Rattle.rdb_types.specs.declared.file.FileId.{FileId}
 use Rattle.rdb_types.specs.File.{slot_bytes}
-use Rattle.rdb_outside.specs.Disk.{Image, zeros}
-use Rattle.aij_journal.specs.declared.part.AijPart.{AijPart}
-use Rattle.aij_journal.specs.Header.{IsHeader}
-use Rattle.journal_scan.specs.declared.group.Group.{Group}
-use Rattle.journal_scan.specs.declared.scan.Scan.{Scan}
-use Rattle.journal_scan.specs.declared.scan.Stage.{Stage}
-use Rattle.journal_scan.specs.declared.scan.Stage.TheVariants.{Ended}
-use Rattle.journal_scan.specs.Standing.{what_stands}
-use Rattle.journal_scan.specs.Reading.{begins_at, read, read_part, read_all, ended, groups_of}
-use Rattle.journal_scan.specs.Whole.{slots_of, IsWhole, AreGroups}
-use Rattle.journal_scan.proofs.Groups.{are_groups}
-use Rattle.journal_scan.proofs.Steps.{in_pieces}
+use Rattle.journal_reading.specs.rdb_outside.Disk.{Image, zeros}
+use Rattle.new_database.specs.aij_journal.declared.part.AijPart.{AijPart}
+use Rattle.new_database.specs.aij_journal.Header.{IsHeader}
+use Rattle.journal_reading.specs.journal_scan.declared.group.Group.{Group}
+use Rattle.journal_reading.specs.journal_scan.declared.scan.Scan.{Scan}
+use Rattle.journal_reading.specs.journal_scan.declared.scan.Stage.{Stage}
+use Rattle.journal_reading.specs.journal_scan.declared.scan.Stage.TheVariants.{Ended}
+use Rattle.journal_reading.specs.journal_scan.Standing.{what_stands}
+use Rattle.journal_reading.specs.journal_scan.Reading.{begins_at, read, read_part, read_all, ended, groups_of}
+use Rattle.journal_reading.specs.journal_scan.Whole.{slots_of, IsWhole, AreGroups}
+use Rattle.journal_reading.proofs.of_journal_scan.Groups.{are_groups}
+use Rattle.journal_reading.proofs.of_journal_scan.Steps.{in_pieces}
 use Rattle.journal_reading.specs.Journal.{EndsBy, standing, IsReadUpTo}
 use Rattle.new_database.specs.Maker.{aij_file}
 use Rattle.stable_lines.specs.Journal.{Journal, slots_in, next_number, next_slot, StandsAt, IsJournalOf}

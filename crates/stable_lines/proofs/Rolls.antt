@@ -1,12 +1,12 @@
 -- A backup rolled forward, through the steps.
 use Rattle.std.proofs.Common.{◌≡◌, ℕ, ◌+◌, ◌≤◌, ◌<◌, Bool, true, false, cond, nat_lt, List, [], ◌∷◌, ◌++◌, length, Some, None, refl, sym, ◌∙◌, ap, arith, length-append}
 use Rattle.std.proofs.lemmas.Bool.{lt-ltb}
-use Rattle.journal_scan.specs.declared.group.Group.{Group}
-use Rattle.journal_scan.specs.Whole.{AreWhole}
+use Rattle.journal_reading.specs.journal_scan.declared.group.Group.{Group}
+use Rattle.journal_reading.specs.journal_scan.Whole.{AreWhole}
 use Rattle.line_view.specs.Knowledge.{Lines}
 use Rattle.stable_lines.specs.Journal.{lines_behind, next_number}
 use Rattle.stable_lines.specs.Progress.{Flight, Progress, landed, lines_with, journal_with}
-use Rattle.rdb_outside.specs.Disk.{Image}
+use Rattle.journal_reading.specs.rdb_outside.Disk.{Image}
 use Rattle.stable_lines.specs.Facts.{PendingContents, Facts, StandsAs, as_committed, with_former, with_flight}
 use Rattle.stable_lines.specs.Rolling.{laid_groups, groups_above, rolled, IsBehind, Rolls}
 

@@ -4,8 +4,8 @@ use Rattle.rdb_types.specs.declared.file.FileId.{FileId}
 use Rattle.rdb_types.specs.declared.file.FileKind.TheVariants.{Root, Area, Ruj, Aij}
 use Rattle.rdb_types.specs.declared.keys.Dbkey.{Dbkey}
 use Rattle.rdb_types.specs.declared.keys.Line.{Line}
-use Rattle.rdb_page.specs.Lines.{never}
-use Rattle.area_files.specs.Areas.{IsSpacePage, IsDataPage, space_page_of}
+use Rattle.ruj_journal.specs.rdb_page.Lines.{never}
+use Rattle.space_pages.specs.area_files.Areas.{IsSpacePage, IsDataPage, space_page_of}
 use Rattle.space_pages.specs.Space.{IsSpace, owner_of}
 use Rattle.line_view.specs.Knowledge.{line_in}
 use Rattle.stable_lines.specs.Slots.{area_file, file_of, slot_of, IsAreaFile, line_on}

@@ -5,14 +5,14 @@ use Rattle.std.proofs.lemmas.Bool.{eq-eqb}
 use Rattle.rdb_types.specs.declared.keys.Dbkey.{Dbkey}
 use Rattle.rdb_types.specs.declared.keys.Tsn.{Tsn}
 use Rattle.rdb_types.specs.declared.keys.Limits.{Limits}
-use Rattle.rdb_outside.specs.Disk.{Image}
+use Rattle.journal_reading.specs.rdb_outside.Disk.{Image}
 use Rattle.ruj_journal.specs.Entry.{IsEntry}
-use Rattle.aij_journal.specs.declared.part.GroupLine.{GroupLine}
-use Rattle.aij_journal.specs.declared.part.AijPart.{AijPart}
-use Rattle.aij_journal.specs.Header.{IsHeader}
-use Rattle.journal_scan.specs.declared.group.Group.{Group}
-use Rattle.journal_scan.specs.Standing.{what_stands}
-use Rattle.journal_scan.specs.Whole.{slots_of, count_of, IsWhole, AreWhole}
+use Rattle.new_database.specs.aij_journal.declared.part.GroupLine.{GroupLine}
+use Rattle.new_database.specs.aij_journal.declared.part.AijPart.{AijPart}
+use Rattle.new_database.specs.aij_journal.Header.{IsHeader}
+use Rattle.journal_reading.specs.journal_scan.declared.group.Group.{Group}
+use Rattle.journal_reading.specs.journal_scan.Standing.{what_stands}
+use Rattle.journal_reading.specs.journal_scan.Whole.{slots_of, count_of, IsWhole, AreWhole}
 use Rattle.line_view.specs.Knowledge.{Lines, IsInOrder, line_in}
 use Rattle.new_database.specs.Maker.{root_file, aij_file}
 use Rattle.line_versions.specs.Lines.{shown}

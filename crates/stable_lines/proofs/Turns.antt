@@ -3,9 +3,9 @@ use Rattle.std.proofs.Common.{◌≡◌, ◌≢◌, ℕ, suc, ◌≤◌, ◌<◌
 use Rattle.std.proofs.lemmas.Bool.{eq-eqb}
 use Rattle.rdb_types.specs.declared.keys.Dbkey.{Dbkey}
 use Rattle.rdb_types.specs.declared.keys.Line.{Line}
-use Rattle.root_file.specs.declared.Root.{Root}
-use Rattle.root_file.specs.Root.{IsRoot}
-use Rattle.journal_scan.specs.declared.group.Group.{Group}
+use Rattle.new_database.specs.root_file.declared.Root.{Root}
+use Rattle.new_database.specs.root_file.Root.{IsRoot}
+use Rattle.journal_reading.specs.journal_scan.declared.group.Group.{Group}
 use Rattle.new_database.specs.Maker.{root_file}
 use Rattle.stable_lines.specs.Slots.{IsMember, named}
 use Rattle.stable_lines.specs.Journal.{has_group}

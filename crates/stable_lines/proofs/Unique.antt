@@ -6,18 +6,18 @@ use Rattle.rdb_types.specs.declared.file.FileId.{FileId}
 use Rattle.rdb_types.specs.declared.keys.Dbkey.{Dbkey}
 use Rattle.rdb_types.specs.declared.keys.Tsn.{Tsn}
 use Rattle.rdb_types.specs.declared.keys.Line.{Line}
-use Rattle.rdb_outside.specs.Disk.{Image}
+use Rattle.journal_reading.specs.rdb_outside.Disk.{Image}
 use Rattle.rdb_types.specs.Order.{dbkey_order}
 use Rattle.rdb_types.specs.OrderLaws.{dbkey_total, same_dbkey}
 use Rattle.ruj_journal.specs.declared.entry.RujEntry.{RujEntry}
 use Rattle.ruj_journal.specs.Entry.{IsEntry}
 use Rattle.ruj_journal.proofs.Readings.{one_entry}
-use Rattle.aij_journal.specs.declared.part.AijPart.{AijPart}
-use Rattle.journal_scan.specs.declared.group.Group.{Group}
-use Rattle.journal_scan.specs.Standing.{what_stands}
-use Rattle.journal_scan.specs.Reading.{groups_of}
-use Rattle.journal_scan.specs.Whole.{slots_of, IsWhole, AreGroups}
-use Rattle.journal_scan.proofs.Groups.{only}
+use Rattle.new_database.specs.aij_journal.declared.part.AijPart.{AijPart}
+use Rattle.journal_reading.specs.journal_scan.declared.group.Group.{Group}
+use Rattle.journal_reading.specs.journal_scan.Standing.{what_stands}
+use Rattle.journal_reading.specs.journal_scan.Reading.{groups_of}
+use Rattle.journal_reading.specs.journal_scan.Whole.{slots_of, IsWhole, AreGroups}
+use Rattle.journal_reading.proofs.of_journal_scan.Groups.{only}
 use Rattle.journal_reading.specs.Journal.{standing}
 use Rattle.line_view.specs.Knowledge.{Lines}
 use Rattle.new_database.specs.Maker.{aij_file}

@@ -4,25 +4,25 @@ use Rattle.rdb_types.specs.declared.file.FileId.{FileId}
 use Rattle.rdb_types.specs.declared.keys.Dbkey.{Dbkey}
 use Rattle.rdb_types.specs.declared.keys.Line.{Line}
 use Rattle.rdb_types.specs.declared.keys.Tsn.{Tsn}
-use Rattle.rdb_outside.specs.Disk.{Image, zeros}
-use Rattle.root_file.specs.declared.Root.{Root}
-use Rattle.root_file.specs.Root.{IsRoot}
-use Rattle.area_files.specs.Areas.{IsPage, IsSpacePage, IsDataPage, space_page_of}
+use Rattle.journal_reading.specs.rdb_outside.Disk.{Image, zeros}
+use Rattle.new_database.specs.root_file.declared.Root.{Root}
+use Rattle.new_database.specs.root_file.Root.{IsRoot}
+use Rattle.space_pages.specs.area_files.Areas.{IsPage, IsSpacePage, IsDataPage, space_page_of}
 use Rattle.space_pages.specs.Space.{IsSpace, owner_of}
 use Rattle.ruj_journal.specs.declared.entry.RujEntry.{RujEntry}
 use Rattle.ruj_journal.specs.Entry.{IsEntry}
-use Rattle.aij_journal.specs.declared.part.GroupLine.{GroupLine}
-use Rattle.aij_journal.specs.declared.part.AijPart.{AijPart}
-use Rattle.aij_journal.specs.Header.{IsHeader}
-use Rattle.journal_scan.specs.declared.group.Group.{Group}
-use Rattle.journal_scan.specs.Standing.{what_stands}
-use Rattle.journal_scan.specs.Whole.{slots_of, IsWhole, AreWhole}
+use Rattle.new_database.specs.aij_journal.declared.part.GroupLine.{GroupLine}
+use Rattle.new_database.specs.aij_journal.declared.part.AijPart.{AijPart}
+use Rattle.new_database.specs.aij_journal.Header.{IsHeader}
+use Rattle.journal_reading.specs.journal_scan.declared.group.Group.{Group}
+use Rattle.journal_reading.specs.journal_scan.Standing.{what_stands}
+use Rattle.journal_reading.specs.journal_scan.Whole.{slots_of, IsWhole, AreWhole}
 use Rattle.line_view.specs.Knowledge.{IsInOrder, line_in}
 use Rattle.new_database.specs.Maker.{root_file, aij_file}
 use Rattle.line_versions.specs.Lines.{shown, shown_as}
 use Rattle.stable_lines.specs.Slots.{ruj_file, area_file, file_of, slot_of, owner_at, IsMember, IsAreaFile, line_on, named, Undo, entry_at}
 use Rattle.stable_lines.specs.Journal.{Journal, slots_in, next_number, next_slot, has_group, commit_of}
-use Rattle.rdb_page.specs.Whole.{IsPageOf}
+use Rattle.ruj_journal.specs.rdb_page.Whole.{IsPageOf}
 use Rattle.stable_lines.specs.Kept.{Kept, IsOf, IsRujHeader, FitsClass}
 use Rattle.stable_lines.specs.Progress.{Open, Flight, Progress, lines_with, journal_with}
 

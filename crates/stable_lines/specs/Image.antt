@@ -3,9 +3,9 @@ use Rattle.std.specs.Prelude.{ℕ, ◌+◌, ◌≤◌, ◌<◌, ◌≡◌, ◌�
 use Rattle.rdb_types.specs.declared.keys.Dbkey.{Dbkey}
 use Rattle.rdb_types.specs.declared.keys.Tsn.{Tsn}
 use Rattle.rdb_types.specs.declared.keys.Line.{Line}
-use Rattle.rdb_outside.specs.Disk.{Image}
+use Rattle.journal_reading.specs.rdb_outside.Disk.{Image}
 use Rattle.ruj_journal.specs.Entry.{IsEntry}
-use Rattle.journal_scan.specs.declared.group.Group.{Group}
+use Rattle.journal_reading.specs.journal_scan.declared.group.Group.{Group}
 use Rattle.line_view.specs.Knowledge.{Lines, IsInOrder, line_in}
 use Rattle.line_versions.specs.Lines.{shown}
 use Rattle.stable_lines.specs.Slots.{ruj_file, IsMember, line_at, named, Undo, entry_at}

@@ -1,13 +1,13 @@
 -- The whole groups of the after-image journal of an image.
 use Rattle.std.specs.Prelude.{ℕ, ◌+◌, ◌≡◌, Bool, false, ◌==◌, ◌||◌, List, [], ◌∷◌, ◌++◌, length, map, slice_get, Option, Some, None}
 use Rattle.std.specs.List.{flat_map}
-use Rattle.rdb_outside.specs.Disk.{Image}
-use Rattle.aij_journal.specs.declared.part.GroupLine.{GroupLine}
-use Rattle.aij_journal.specs.declared.part.AijPart.{AijPart}
-use Rattle.aij_journal.specs.Header.{IsHeader}
-use Rattle.journal_scan.specs.declared.group.Group.{Group}
-use Rattle.journal_scan.specs.Standing.{what_stands}
-use Rattle.journal_scan.specs.Whole.{slots_of, group_slot, IsWhole, AreWhole}
+use Rattle.journal_reading.specs.rdb_outside.Disk.{Image}
+use Rattle.new_database.specs.aij_journal.declared.part.GroupLine.{GroupLine}
+use Rattle.new_database.specs.aij_journal.declared.part.AijPart.{AijPart}
+use Rattle.new_database.specs.aij_journal.Header.{IsHeader}
+use Rattle.journal_reading.specs.journal_scan.declared.group.Group.{Group}
+use Rattle.journal_reading.specs.journal_scan.Standing.{what_stands}
+use Rattle.journal_reading.specs.journal_scan.Whole.{slots_of, group_slot, IsWhole, AreWhole}
 use Rattle.line_view.specs.declared.writes.Write.{Write}
 use Rattle.line_view.specs.Knowledge.{Lines}
 use Rattle.line_view.specs.Writes.{laid_all}

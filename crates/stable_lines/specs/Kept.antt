@@ -3,19 +3,19 @@ use Rattle.std.specs.Prelude.{ℕ, ◌-◌, ◌≤◌, ◌<◌, ◌≡◌, ◌�
 use Rattle.rdb_types.specs.declared.keys.Dbkey.{Dbkey}
 use Rattle.rdb_types.specs.declared.keys.Tsn.{Tsn}
 use Rattle.rdb_types.specs.declared.keys.Line.{Line}
-use Rattle.rdb_outside.specs.Disk.{Image, zeros}
-use Rattle.root_file.specs.declared.Root.{Root}
-use Rattle.root_file.specs.Root.{IsRoot}
-use Rattle.rdb_page.specs.Whole.{IsPageOf}
-use Rattle.rdb_page.specs.Page.{class_at}
-use Rattle.area_files.specs.Areas.{IsPage, IsSpacePage, IsDataPage, space_page_of}
+use Rattle.journal_reading.specs.rdb_outside.Disk.{Image, zeros}
+use Rattle.new_database.specs.root_file.declared.Root.{Root}
+use Rattle.new_database.specs.root_file.Root.{IsRoot}
+use Rattle.ruj_journal.specs.rdb_page.Whole.{IsPageOf}
+use Rattle.ruj_journal.specs.rdb_page.Page.{class_at}
+use Rattle.space_pages.specs.area_files.Areas.{IsPage, IsSpacePage, IsDataPage, space_page_of}
 use Rattle.space_pages.specs.Space.{IsSpace, owner_of}
 use Rattle.ruj_journal.specs.declared.entry.RujEntry.{RujEntry}
 use Rattle.ruj_journal.specs.Entry.{IsEntry}
 use Rattle.ruj_journal.specs.Header.{IsHeader}
-use Rattle.aij_journal.specs.declared.part.AijPart.{AijPart}
-use Rattle.journal_scan.specs.declared.group.Group.{Group}
-use Rattle.journal_scan.specs.Standing.{what_stands}
+use Rattle.new_database.specs.aij_journal.declared.part.AijPart.{AijPart}
+use Rattle.journal_reading.specs.journal_scan.declared.group.Group.{Group}
+use Rattle.journal_reading.specs.journal_scan.Standing.{what_stands}
 use Rattle.line_view.specs.Knowledge.{Lines, line_in}
 use Rattle.new_database.specs.Maker.{root_file, aij_file}
 use Rattle.stable_lines.specs.Slots.{ruj_file, area_file, file_of, slot_of, owner_at, IsMember, IsAreaFile, line_at, named}

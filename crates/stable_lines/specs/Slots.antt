@@ -6,12 +6,12 @@ use Rattle.rdb_types.specs.declared.file.FileKind.TheVariants.{Area, Ruj}
 use Rattle.rdb_types.specs.declared.keys.Dbkey.{Dbkey}
 use Rattle.rdb_types.specs.declared.keys.Tsn.{Tsn}
 use Rattle.rdb_types.specs.declared.keys.Line.{Line}
-use Rattle.rdb_outside.specs.Disk.{Image}
-use Rattle.rdb_page.specs.Lines.{line_place, never}
-use Rattle.rdb_page.specs.Page.{lines_of, class_at}
+use Rattle.journal_reading.specs.rdb_outside.Disk.{Image}
+use Rattle.ruj_journal.specs.rdb_page.Lines.{line_place, never}
+use Rattle.ruj_journal.specs.rdb_page.Page.{lines_of, class_at}
 use Rattle.line_versions.specs.Lines.{storage_area}
 use Rattle.ruj_journal.specs.declared.entry.RujEntry.{RujEntry}
-use Rattle.journal_scan.specs.Standing.{said_state}
+use Rattle.journal_reading.specs.journal_scan.Standing.{said_state}
 
 -- ---- files
 

@@ -1,13 +1,13 @@
 -- What steps ask: of a group that takes off, of a space page that is written, of a journal that is begun anew.
 use Rattle.std.specs.Prelude.{ℕ, ◌+◌, ◌-◌, ◌≤◌, ◌<◌, ◌≡◌, List, length, slice_get, Option, Some}
 use Rattle.rdb_types.specs.declared.keys.Dbkey.{Dbkey}
-use Rattle.rdb_outside.specs.Disk.{Image}
-use Rattle.area_files.specs.Areas.{IsPage, IsDataPage, space_page_of}
+use Rattle.journal_reading.specs.rdb_outside.Disk.{Image}
+use Rattle.space_pages.specs.area_files.Areas.{IsPage, IsDataPage, space_page_of}
 use Rattle.space_pages.specs.Space.{IsSpace, owner_of}
-use Rattle.aij_journal.specs.declared.part.GroupLine.{GroupLine}
-use Rattle.aij_journal.specs.declared.part.AijPart.{AijPart}
-use Rattle.journal_scan.specs.Standing.{what_stands}
-use Rattle.journal_scan.specs.Whole.{slots_of, IsWhole}
+use Rattle.new_database.specs.aij_journal.declared.part.GroupLine.{GroupLine}
+use Rattle.new_database.specs.aij_journal.declared.part.AijPart.{AijPart}
+use Rattle.journal_reading.specs.journal_scan.Standing.{what_stands}
+use Rattle.journal_reading.specs.journal_scan.Whole.{slots_of, IsWhole}
 use Rattle.line_view.specs.Knowledge.{line_in}
 use Rattle.new_database.specs.Maker.{aij_file}
 use Rattle.stable_lines.specs.Slots.{area_file, ruj_file, file_of, slot_of, owner_at, line_at, named, IsMember, Undo}

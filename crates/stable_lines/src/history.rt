@@ -1,7 +1,7 @@
 // What the images since a commit stand for, and what a backup rolled forward gives.
 ghost use Rattle.std.specs.Prelude.{◌≡◌, ◌+◌, ℕ, None, Some};
-ghost use Rattle.rdb_outside.specs.Disk.{Image, LeftNow, Pending};
-ghost use Rattle.rdb_outside.specs.Moments.{Since};
+ghost use Rattle.journal_reading.specs.rdb_outside.Disk.{Image, LeftNow, Pending};
+ghost use Rattle.journal_reading.specs.rdb_outside.Moments.{Since};
 ghost use Rattle.line_view.specs.Knowledge.{Lines};
 ghost use Rattle.stable_lines.specs.Journal.{next_number};
 ghost use Rattle.stable_lines.specs.Progress.{Flight, Progress, flying, landed};
@@ -9,7 +9,7 @@ ghost use Rattle.stable_lines.specs.Facts.{Facts};
 ghost use Rattle.stable_lines.specs.History.{History, IsAt, StandsFrom, GoesOn, state_of, state_with, with_try, with_commit};
 ghost use Rattle.stable_lines.specs.Rolling.{IsBehind, Rolls};
 
-use rdb_outside::Disk;
+use journal_reading::rdb_outside::Disk;
 
 /// From the moment of a commit on, each image stands for a state reached from that commit on, or tried since.
 pub fn images_since_a_commit<D: Disk>(disk: &D)

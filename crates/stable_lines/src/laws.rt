@@ -1,8 +1,8 @@
 // What follows from the definitions and from the facts.
 ghost use Rattle.std.specs.Prelude.{◌≡◌, ℕ, List, [], Option};
 ghost use Rattle.rdb_types.specs.declared.keys.Limits.{Limits};
-ghost use Rattle.rdb_outside.specs.Disk.{Image, LeftNow, Pending, IsStable};
-ghost use Rattle.journal_scan.specs.declared.group.Group.{Group};
+ghost use Rattle.journal_reading.specs.rdb_outside.Disk.{Image, LeftNow, Pending, IsStable};
+ghost use Rattle.journal_reading.specs.journal_scan.declared.group.Group.{Group};
 ghost use Rattle.new_database.specs.New.{IsNewDatabase};
 ghost use Rattle.line_view.specs.Knowledge.{Lines};
 ghost use Rattle.stable_lines.specs.Journal.{Journal, IsJournalOf};
@@ -12,7 +12,7 @@ ghost use Rattle.stable_lines.specs.Progress.{Open, Progress};
 ghost use Rattle.stable_lines.specs.Facts.{Facts, StandsAs};
 ghost use Rattle.stable_lines.specs.Opening.{IsFound, found};
 
-use rdb_outside::Disk;
+use journal_reading::rdb_outside::Disk;
 
 /// Each image that a crash may leave is kept. It stands for what is committed, or, where the group in flight is whole in it, for that with the group.
 pub fn each_image_stands<D: Disk>(disk: &D)

@@ -2,14 +2,14 @@
 ghost use Rattle.std.specs.Prelude.{◌≡◌, ◌≢◌, ◌≤◌, ◌<◌, ◌+◌, ◌-◌, ℕ, List, length, slice_get, Some, None};
 ghost use Rattle.rdb_types.specs.declared.file.FileId.{FileId};
 ghost use Rattle.rdb_types.specs.declared.file.FileKind.TheVariants.{Root as RootKind, Area, Ruj, Aij};
-ghost use Rattle.rdb_outside.specs.Disk.{Adds, Pending, IsStable};
-ghost use Rattle.root_file.specs.declared.Root.{Root};
-ghost use Rattle.root_file.specs.Root.{IsRoot};
+ghost use Rattle.journal_reading.specs.rdb_outside.Disk.{Adds, Pending, IsStable};
+ghost use Rattle.new_database.specs.root_file.declared.Root.{Root};
+ghost use Rattle.new_database.specs.root_file.Root.{IsRoot};
 ghost use Rattle.ruj_journal.specs.declared.entry.RujEntry.{RujEntry};
 ghost use Rattle.ruj_journal.specs.Entry.{IsEntry};
-ghost use Rattle.aij_journal.specs.declared.part.AijPart.{AijPart};
-ghost use Rattle.aij_journal.specs.Header.{IsHeader};
-ghost use Rattle.journal_scan.specs.Standing.{what_stands};
+ghost use Rattle.new_database.specs.aij_journal.declared.part.AijPart.{AijPart};
+ghost use Rattle.new_database.specs.aij_journal.Header.{IsHeader};
+ghost use Rattle.journal_reading.specs.journal_scan.Standing.{what_stands};
 ghost use Rattle.new_database.specs.Maker.{root_file, aij_file};
 ghost use Rattle.stable_lines.specs.Slots.{area_file, ruj_file, IsMember, IsAreaFile, line_at, named, Undo, entry_at};
 ghost use Rattle.stable_lines.specs.Journal.{next_number, next_slot, commit_of};
@@ -19,7 +19,7 @@ ghost use Rattle.stable_lines.specs.Progress.{Open, Flight, Progress, begun, sav
 ghost use Rattle.stable_lines.specs.Facts.{Facts, RootStands};
 ghost use Rattle.stable_lines.specs.Steps.{IsReady, MayBeSpace, NamesNone};
 
-use rdb_outside::Disk;
+use journal_reading::rdb_outside::Disk;
 
 /// A write keeps the facts, whether it answered Ok or failed: they are the facts of the same progress.
 pub fn a_write_keeps_the_facts<D: Disk>(before: &D, after: &D)

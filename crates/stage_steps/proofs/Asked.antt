@@ -4,16 +4,16 @@ use Rattle.std.specs.Prelude.{Option, option_map, is_some, if◌then◌else◌}
 use Rattle.std.proofs.lemmas.Option.{slice_get_within}
 use Rattle.lock_needs.specs.declared.need.Need.{Need}
 use Rattle.line_view.specs.declared.writes.Write.{Write}
-use Rattle.session_states.specs.declared.stage.Work.TheVariants.{Opening, Due, Out, Lacking, Housing, Fetching, Lodging}
-use Rattle.session_states.specs.States.{is_at_rest}
+use Rattle.session_limits.specs.session_states.declared.stage.Work.TheVariants.{Opening, Due, Out, Lacking, Housing, Fetching, Lodging}
+use Rattle.session_limits.specs.session_states.States.{is_at_rest}
 use Rattle.lock_needs.specs.declared.party.OpenWant.{OpenWant}
 use Rattle.lock_tree_laws.specs.Order.{without_asks}
-use Rattle.session_states.specs.declared.stage.Laying.TheVariants.{Claiming, Changing}
-use Rattle.session_states.specs.declared.stage.End.TheVariants.{Preparing, Journal, Ready, Committing, RollingBack, Leaving}
-use Rattle.session_states.specs.declared.stage.Stage.{Stage}
-use Rattle.session_states.specs.declared.stage.Stage.TheVariants.{Between, Working, Gathering, Reserving, Saying, Ending}
-use Rattle.session_states.specs.Locks.{lock_of, lock_of_write, has_journal}
-use Rattle.session_states.specs.Turns.{IsWithin}
+use Rattle.session_limits.specs.session_states.declared.stage.Laying.TheVariants.{Claiming, Changing}
+use Rattle.session_limits.specs.session_states.declared.stage.End.TheVariants.{Preparing, Journal, Ready, Committing, RollingBack, Leaving}
+use Rattle.session_limits.specs.session_states.declared.stage.Stage.{Stage}
+use Rattle.session_limits.specs.session_states.declared.stage.Stage.TheVariants.{Between, Working, Gathering, Reserving, Saying, Ending}
+use Rattle.session_limits.specs.session_states.Locks.{lock_of, lock_of_write, has_journal}
+use Rattle.session_limits.specs.session_states.Turns.{IsWithin}
 use Rattle.stage_steps.specs.Asking.{IsOfStatement}
 use Rattle.std.proofs.lemmas.Option.{none-some, same_Some}
 use Rattle.std.proofs.Math.Seq.{drop-append_seam}

@@ -20,7 +20,7 @@ use Rattle.lock_tree_laws.specs.declared.answer.Want.TheVariants.{Got as GotIt, 
 use Rattle.vms_queues.specs.declared.lock_mode.Mode.{Mode}
 use Rattle.rdb_account.specs.Events.{Event, Got, Said, RolledBack}
 use Rattle.line_view.specs.Held.{Held}
-use Rattle.line_steps.specs.Images.{journal_node}
+use Rattle.session_limits.specs.line_steps.Images.{journal_node}
 use Rattle.line_store.specs.Seats.{Seat, writing, rolled_back}
 use Rattle.line_store.specs.Shelves.{Shelf}
 use Rattle.line_store.specs.Calls.{Moves}
@@ -29,21 +29,21 @@ use Rattle.lock_ties.specs.Ties.{wanted_at}
 use Rattle.lock_ties.proofs.Answers.{conflict-lawful, deadlock-lawful}
 use Rattle.journal_waits.specs.Holders.{WantsExclusively}
 use Rattle.session_jobs.specs.Records.{Model, IsOrderly}
-use Rattle.session_states.specs.declared.stage.Work.TheVariants.{Opening, Due, Out, Lacking, Housing, Fetching, Lodging}
-use Rattle.session_states.specs.declared.stage.Laying.TheVariants.{Claiming, Changing}
-use Rattle.session_states.specs.declared.stage.Stage.{Stage}
-use Rattle.session_states.specs.declared.stage.Stage.TheVariants.{Between, Working, Gathering, Reserving, Saying, Ending}
-use Rattle.session_states.specs.declared.stage.Phase.{Phase}
-use Rattle.session_states.specs.declared.stage.Phase.TheVariants.{Writing, Closing}
-use Rattle.session_states.specs.Fits.{WantsAtMost}
-use Rattle.session_states.specs.Locks.{lock_of, has_journal, HasJournal}
-use Rattle.session_states.specs.Turns.{got}
-use Rattle.session_states.specs.States.{is_at_rest, item_of, writer, session}
-use Rattle.session_states.specs.Shared.{Shared, RestsWith}
-use Rattle.session_states.specs.Steps.{Step}
-use Rattle.session_states.proofs.Asking.{asks-on, gets-on}
-use Rattle.session_states.proofs.Refusing.{refuses-on, asks-waits}
-use Rattle.session_states.proofs.Starting.{start-refuses-on}
+use Rattle.session_limits.specs.session_states.declared.stage.Work.TheVariants.{Opening, Due, Out, Lacking, Housing, Fetching, Lodging}
+use Rattle.session_limits.specs.session_states.declared.stage.Laying.TheVariants.{Claiming, Changing}
+use Rattle.session_limits.specs.session_states.declared.stage.Stage.{Stage}
+use Rattle.session_limits.specs.session_states.declared.stage.Stage.TheVariants.{Between, Working, Gathering, Reserving, Saying, Ending}
+use Rattle.session_limits.specs.session_states.declared.stage.Phase.{Phase}
+use Rattle.session_limits.specs.session_states.declared.stage.Phase.TheVariants.{Writing, Closing}
+use Rattle.session_limits.specs.session_states.Fits.{WantsAtMost}
+use Rattle.session_limits.specs.session_states.Locks.{lock_of, has_journal, HasJournal}
+use Rattle.session_limits.specs.session_states.Turns.{got}
+use Rattle.session_limits.specs.session_states.States.{is_at_rest, item_of, writer, session}
+use Rattle.session_limits.specs.session_states.Shared.{Shared, RestsWith}
+use Rattle.session_limits.specs.session_states.Steps.{Step}
+use Rattle.session_limits.proofs.of_session_states.Asking.{asks-on, gets-on}
+use Rattle.session_limits.proofs.of_session_states.Refusing.{refuses-on, asks-waits}
+use Rattle.session_limits.proofs.of_session_states.Starting.{start-refuses-on}
 use Rattle.session_stands.specs.Seated.{IsSeated, stand_of, StatementFitsAt}
 use Rattle.stage_steps.specs.declared.calling.Called.{Called}
 use Rattle.stage_steps.specs.Asking.{IsCalled, IsOfStatement, IsReplyTo}

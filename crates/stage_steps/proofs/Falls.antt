@@ -12,11 +12,11 @@ use Rattle.session_stands.specs.Seated.{HasFallen}
 use Rattle.line_store.specs.Shelves.{Shelf}
 use Rattle.line_store.specs.Calls.{Comes}
 use Rattle.session_jobs.specs.Records.{Model, IsOrderly}
-use Rattle.session_states.specs.declared.stage.Phase.{Phase}
-use Rattle.session_states.specs.Shared.{Shared, with_recovery, RestsWith}
-use Rattle.session_states.specs.States.{dead_session, gone_session}
-use Rattle.session_states.specs.Steps.{Fall}
-use Rattle.session_states.proofs.Dying.{recovers-on, recovers-commit}
+use Rattle.session_limits.specs.session_states.declared.stage.Phase.{Phase}
+use Rattle.session_limits.specs.session_states.Shared.{Shared, with_recovery, RestsWith}
+use Rattle.session_limits.specs.session_states.States.{dead_session, gone_session}
+use Rattle.session_limits.specs.session_states.Steps.{Fall}
+use Rattle.session_limits.proofs.of_session_states.Dying.{recovers-on, recovers-commit}
 
 module _ (M : Model) (orderly : IsOrderly M) where
   pub recovers-as : (o : Opening) (s : ℕ) (c : Shared) (shelf : Shelf) (locks : State) (left : List Item) (total : ℕ) (x : Phase) (b : Bool) (m : Moment) → Comes s c.shelf shelf (Ok (stepped.Recovered b m)) → RestsWith s [] c.locks locks →

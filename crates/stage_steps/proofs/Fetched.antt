@@ -10,16 +10,16 @@ use Rattle.kept_apart.specs.Alike.{IsGuarded}
 use Rattle.line_store.specs.Shelves.{Shelf, seen_by}
 use Rattle.rdb_account.specs.Places.{Opening, Place}
 use Rattle.line_store.specs.Calls.{Moves}
-use Rattle.store_counts.specs.Counts.{IsCounted}
-use Rattle.store_counts.proofs.Kept.{counted-same}
+use Rattle.session_limits.specs.store_counts.Counts.{IsCounted}
+use Rattle.session_limits.proofs.of_store_counts.Kept.{counted-same}
 use Rattle.session_jobs.specs.Records.{Model, IsOrderly}
 use Rattle.stepped_jobs.specs.Needs.{IsLocked}
-use Rattle.session_states.specs.declared.stage.Work.TheVariants.{Due, Fetching}
-use Rattle.session_states.specs.declared.stage.Stage.TheVariants.{Working}
-use Rattle.session_states.specs.declared.stage.Phase.TheVariants.{Writing}
-use Rattle.session_states.specs.States.{writer}
-use Rattle.session_states.specs.Shared.{Shared, with_shelf}
-use Rattle.session_states.proofs.Working.{reads}
+use Rattle.session_limits.specs.session_states.declared.stage.Work.TheVariants.{Due, Fetching}
+use Rattle.session_limits.specs.session_states.declared.stage.Stage.TheVariants.{Working}
+use Rattle.session_limits.specs.session_states.declared.stage.Phase.TheVariants.{Writing}
+use Rattle.session_limits.specs.session_states.States.{writer}
+use Rattle.session_limits.specs.session_states.Shared.{Shared, with_shelf}
+use Rattle.session_limits.proofs.of_session_states.Working.{reads}
 use Rattle.stage_steps.specs.Turns.{Comes}
 
 module _ (M : Model) (orderly : IsOrderly M) (s : ℕ) (c : Shared) (shelf : Shelf) (standing : Standing) (known new : Held) (item : Item) (n : Need) (moves : Moves s (c.shelf.seat s) c.shelf shelf)

@@ -21,9 +21,9 @@ use Rattle.line_view.specs.Knowledge.{Knowledge, Agrees}
 use Rattle.line_view.specs.Writes.{laid_all}
 use Rattle.line_view.specs.declared.writes.Write.{Write}
 use Rattle.kept_apart.proofs.Alike.{alike-refl}
-use Rattle.line_history.proofs.Standings.{starts-leaves}
-use Rattle.line_steps.specs.Right.{Ground, Writes}
-use Rattle.line_steps.proofs.Wants.{takes-locks}
+use Rattle.session_limits.proofs.of_line_history.Standings.{starts-leaves}
+use Rattle.session_limits.specs.line_steps.Right.{Ground, Writes}
+use Rattle.session_limits.proofs.of_line_steps.Wants.{takes-locks}
 use Rattle.line_store.specs.Calls.{MayStopChange}
 use Rattle.line_store.specs.Seats.{IsMember}
 use Rattle.line_store.specs.Shelves.{Shelf}
@@ -36,19 +36,19 @@ use Rattle.session_limits.specs.Some.{WriteSome}
 use Rattle.session_limits.proofs.AtLimits.{ruj-full-on, snap-full-on}
 use Rattle.session_limits.proofs.Changing.{line_lock, asks-change}
 use Rattle.session_limits.proofs.Undone.{right-unwritten}
-use Rattle.session_states.specs.declared.stage.Laying.TheVariants.{Claiming}
-use Rattle.session_states.specs.declared.stage.Stage.TheVariants.{Between, Saying}
-use Rattle.session_states.specs.declared.stage.Phase.TheVariants.{Writing}
-use Rattle.session_states.specs.Fits.{WantsAtMost, has_said}
-use Rattle.session_states.specs.Locks.{lock_of}
-use Rattle.session_states.specs.Shared.{Shared}
-use Rattle.session_states.specs.States.{writer, session}
-use Rattle.session_states.specs.Steps.{Finds, Step}
-use Rattle.session_states.specs.Turns.{said_writer}
-use Rattle.session_states.proofs.InTurn.{steps-on}
-use Rattle.session_states.proofs.Refusing.{asks-free}
-use Rattle.session_states.proofs.Resting.{leaves-others, rests-by}
-use Rattle.session_states.proofs.Storing.{says-at-once}
+use Rattle.session_limits.specs.session_states.declared.stage.Laying.TheVariants.{Claiming}
+use Rattle.session_limits.specs.session_states.declared.stage.Stage.TheVariants.{Between, Saying}
+use Rattle.session_limits.specs.session_states.declared.stage.Phase.TheVariants.{Writing}
+use Rattle.session_limits.specs.session_states.Fits.{WantsAtMost, has_said}
+use Rattle.session_limits.specs.session_states.Locks.{lock_of}
+use Rattle.session_limits.specs.session_states.Shared.{Shared}
+use Rattle.session_limits.specs.session_states.States.{writer, session}
+use Rattle.session_limits.specs.session_states.Steps.{Finds, Step}
+use Rattle.session_limits.specs.session_states.Turns.{said_writer}
+use Rattle.session_limits.proofs.of_session_states.InTurn.{steps-on}
+use Rattle.session_limits.proofs.of_session_states.Refusing.{asks-free}
+use Rattle.session_limits.proofs.of_session_states.Resting.{leaves-others, rests-by}
+use Rattle.session_limits.proofs.of_session_states.Storing.{says-at-once}
 
 -- a START_TRANSACTION changes nothing
 starts-change-none : (item : Uttered) → leaves_none item ≡ true → is_change item ≡ false

@@ -11,9 +11,9 @@ use Rattle.line_store.specs.Calls.{Moves, Fails, MayStand}
 use Rattle.line_store.specs.Sights.{Sight, Does, IsSame, bare}
 use Rattle.line_store.proofs.InTurn.{does-nothing, does-as, does-in-turn}
 use Rattle.session_jobs.specs.Records.{Model}
-use Rattle.session_states.specs.declared.stage.Phase.{Phase}
-use Rattle.session_states.specs.declared.stage.Life.{Life}
-use Rattle.session_states.specs.declared.stage.Life.TheVariants.{Alive}
+use Rattle.session_limits.specs.session_states.declared.stage.Phase.{Phase}
+use Rattle.session_limits.specs.session_states.declared.stage.Life.{Life}
+use Rattle.session_limits.specs.session_states.declared.stage.Life.TheVariants.{Alive}
 use Rattle.session_stands.specs.Seated.{LivesAt}
 use Rattle.stage_steps.specs.declared.happening.Happening.{Happening}
 use Rattle.stage_steps.specs.Scenes.{Scene, Goes, HasFailed, ComesIn, scene}

@@ -11,25 +11,25 @@ use Rattle.rdb_meaning.specs.Contents.{no_tables}
 use Rattle.line_view.specs.Held.{Held, knows, nothing}
 use Rattle.line_view.specs.Knowledge.{Agrees}
 use Rattle.line_store.specs.Shelves.{Shelf}
-use Rattle.line_steps.specs.Right.{Ground, Reads}
-use Rattle.line_steps.specs.Steps.{Here}
-use Rattle.line_steps.proofs.Kept.{arrives}
+use Rattle.session_limits.specs.line_steps.Right.{Ground, Reads}
+use Rattle.session_limits.specs.line_steps.Steps.{Here}
+use Rattle.session_limits.proofs.of_line_steps.Kept.{arrives}
 use Rattle.rdb_types.specs.declared.keys.Dbkey.{Dbkey}
 use Rattle.session_jobs.specs.Records.{Model, IsOrderly}
 use Rattle.session_jobs.specs.Jobs.{IsFound}
 use Rattle.session_jobs.specs.declared.jobs.Found.{Found}
 use Rattle.session_jobs.specs.declared.jobs.Found.TheVariants.{Done, Bad}
 use Rattle.session_jobs.specs.declared.jobs.TxRecord.{TxRecord}
-use Rattle.session_states.specs.declared.stage.ReaderWork.TheVariants.{Out}
-use Rattle.session_states.specs.declared.stage.ReaderStage.TheVariants.{Working}
-use Rattle.session_states.specs.declared.stage.Phase.TheVariants.{Outside, Reading}
-use Rattle.session_states.specs.declared.stage.Member.{Member}
-use Rattle.session_states.specs.States.{reader, seen, session}
-use Rattle.session_states.specs.Shared.{Shared}
-use Rattle.session_states.specs.Steps.{Finds, Step}
-use Rattle.session_states.proofs.Outside.{answers-on}
-use Rattle.session_states.proofs.Parting.{nothing-agrees}
-use Rattle.session_states.proofs.Resting.{none-dead}
+use Rattle.session_limits.specs.session_states.declared.stage.ReaderWork.TheVariants.{Out}
+use Rattle.session_limits.specs.session_states.declared.stage.ReaderStage.TheVariants.{Working}
+use Rattle.session_limits.specs.session_states.declared.stage.Phase.TheVariants.{Outside, Reading}
+use Rattle.session_limits.specs.session_states.declared.stage.Member.{Member}
+use Rattle.session_limits.specs.session_states.States.{reader, seen, session}
+use Rattle.session_limits.specs.session_states.Shared.{Shared}
+use Rattle.session_limits.specs.session_states.Steps.{Finds, Step}
+use Rattle.session_limits.proofs.of_session_states.Outside.{answers-on}
+use Rattle.session_limits.proofs.of_session_states.Parting.{nothing-agrees}
+use Rattle.session_limits.proofs.of_session_states.Resting.{none-dead}
 use Rattle.stage_steps.specs.Scenes.{Scene, FindsNone, on_shelf}
 use Rattle.stage_steps.specs.Turns.{TakesUp}
 

@@ -12,9 +12,9 @@ use Rattle.lock_tree_laws.specs.Progress.{is_spare, MovesOn}
 use Rattle.lock_tree_laws.specs.declared.answer.Want.{Want}
 use Rattle.lock_tree_laws.specs.declared.answer.Want.TheVariants.{NoticeTo, Asleep}
 use Rattle.session_jobs.specs.Records.{Model}
-use Rattle.session_states.specs.declared.stage.Phase.{Phase}
-use Rattle.session_states.specs.declared.stage.Member.{Member}
-use Rattle.session_states.specs.States.{session}
+use Rattle.session_limits.specs.session_states.declared.stage.Phase.{Phase}
+use Rattle.session_limits.specs.session_states.declared.stage.Member.{Member}
+use Rattle.session_limits.specs.session_states.States.{session}
 use Rattle.session_measure.specs.Weights.{Beside, Falls, items_in, rank}
 use Rattle.session_measure.specs.Nearer.{takes_next, has_out, AreRounds, ComesNearer, StaysNear}
 use Rattle.session_measure.proofs.Falling.{by-rank}

@@ -23,7 +23,7 @@ use Rattle.journal_waits.proofs.Chains.{no-cycle}
 use Rattle.journal_waits.proofs.Notices.{no-notice}
 use Rattle.journal_waits.proofs.Askings.{got-asked, asleep-asked}
 use Rattle.line_view.specs.Held.{Held}
-use Rattle.line_steps.specs.Images.{journal_node}
+use Rattle.session_limits.specs.line_steps.Images.{journal_node}
 use Rattle.line_store.specs.Seats.{Seat, IsWriting, prepared_by, given_back, outside, beginning, writing, changing, prepared, committing, rolling_back, closing, reading, dead}
 use Rattle.line_store.specs.declared.answers.CommitStop.TheVariants.{AijFull}
 use Rattle.line_store.specs.Calls.{Moves, MayStopCommit}
@@ -33,18 +33,18 @@ use Rattle.line_store.proofs.InTurn.{does-as, moves-in-turn}
 use Rattle.stage_steps.proofs.Goes.{does-behind, prepared-flight}
 use Rattle.session_jobs.specs.Records.{Model, IsOrderly}
 use Rattle.session_limits.proofs.AtLimits.{aij-full-on}
-use Rattle.session_states.specs.declared.stage.End.{End}
-use Rattle.session_states.specs.declared.stage.End.TheVariants.{Preparing, Journal, Ready}
-use Rattle.session_states.specs.declared.stage.Stage.TheVariants.{Between, Ending}
-use Rattle.session_states.specs.declared.stage.Phase.{Phase}
-use Rattle.session_states.specs.declared.stage.Phase.TheVariants.{Writing}
-use Rattle.session_states.specs.Locks.{HasJournal}
-use Rattle.session_states.specs.States.{writer, session}
-use Rattle.session_states.specs.Shared.{Shared, with_both, LeavesOthers, RestsWith}
-use Rattle.session_states.specs.Steps.{AreAt, Step}
-use Rattle.session_states.proofs.Journal.{has-behind}
-use Rattle.session_states.proofs.Preparing.{prepares-on, prepares-got, gives-back, unprepares-on}
-use Rattle.session_states.proofs.Resting.{leaves-others}
+use Rattle.session_limits.specs.session_states.declared.stage.End.{End}
+use Rattle.session_limits.specs.session_states.declared.stage.End.TheVariants.{Preparing, Journal, Ready}
+use Rattle.session_limits.specs.session_states.declared.stage.Stage.TheVariants.{Between, Ending}
+use Rattle.session_limits.specs.session_states.declared.stage.Phase.{Phase}
+use Rattle.session_limits.specs.session_states.declared.stage.Phase.TheVariants.{Writing}
+use Rattle.session_limits.specs.session_states.Locks.{HasJournal}
+use Rattle.session_limits.specs.session_states.States.{writer, session}
+use Rattle.session_limits.specs.session_states.Shared.{Shared, with_both, LeavesOthers, RestsWith}
+use Rattle.session_limits.specs.session_states.Steps.{AreAt, Step}
+use Rattle.session_limits.proofs.of_session_states.Journal.{has-behind}
+use Rattle.session_limits.proofs.of_session_states.Preparing.{prepares-on, prepares-got, gives-back, unprepares-on}
+use Rattle.session_limits.proofs.of_session_states.Resting.{leaves-others}
 use Rattle.session_stands.specs.Seated.{IsSeated}
 use Rattle.stage_steps.specs.declared.calling.Called.{Called}
 use Rattle.stage_steps.specs.Asking.{IsCalled}

@@ -11,13 +11,13 @@ use Rattle.line_view.specs.Knowledge.{IsInOrder, Agrees}
 use Rattle.line_store.specs.Shelves.{Shelf, seen_by}
 use Rattle.line_store.specs.Calls.{Moves}
 use Rattle.session_jobs.specs.Records.{Model, IsOrderly}
-use Rattle.session_states.specs.declared.stage.ReaderWork.TheVariants.{Due}
-use Rattle.session_states.specs.declared.stage.ReaderStage.{ReaderStage}
-use Rattle.session_states.specs.declared.stage.ReaderStage.TheVariants.{Working, Gathering}
-use Rattle.session_states.specs.States.{reader_item, session}
-use Rattle.session_states.specs.Shared.{Shared, with_shelf}
-use Rattle.session_states.specs.Fits.{ReaderStageFits}
-use Rattle.session_states.proofs.Reading.{goes-to-read, reads-more}
+use Rattle.session_limits.specs.session_states.declared.stage.ReaderWork.TheVariants.{Due}
+use Rattle.session_limits.specs.session_states.declared.stage.ReaderStage.{ReaderStage}
+use Rattle.session_limits.specs.session_states.declared.stage.ReaderStage.TheVariants.{Working, Gathering}
+use Rattle.session_limits.specs.session_states.States.{reader_item, session}
+use Rattle.session_limits.specs.session_states.Shared.{Shared, with_shelf}
+use Rattle.session_limits.specs.session_states.Fits.{ReaderStageFits}
+use Rattle.session_limits.proofs.of_session_states.Reading.{goes-to-read, reads-more}
 use Rattle.session_measure.specs.Weights.{Beside}
 use Rattle.session_measure.specs.Nearer.{ComesNearer}
 use Rattle.session_measure.proofs.Falling.{next-place}

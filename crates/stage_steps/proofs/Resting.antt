@@ -5,10 +5,10 @@ use Rattle.lock_needs.specs.Party.{Party}
 use Rattle.lock_tree_laws.specs.Forest.{State, KeepsParties, idle, opened_of, party_of}
 use Rattle.lock_tree_laws.specs.Wanted.{needs_of}
 use Rattle.lock_tree_laws.specs.Room.{IsAsBefore}
-use Rattle.session_states.specs.declared.stage.Stage.{Stage}
-use Rattle.session_states.specs.Locks.{has_journal, HasJournal}
-use Rattle.session_states.specs.States.{is_at_rest}
-use Rattle.session_states.specs.Shared.{RestsWith}
+use Rattle.session_limits.specs.session_states.declared.stage.Stage.{Stage}
+use Rattle.session_limits.specs.session_states.Locks.{has_journal, HasJournal}
+use Rattle.session_limits.specs.session_states.States.{is_at_rest}
+use Rattle.session_limits.specs.session_states.Shared.{RestsWith}
 use Rattle.stage_steps.proofs.Seated.{rest-without}
 
 pub as-before : (t : State) → IsAsBefore t t

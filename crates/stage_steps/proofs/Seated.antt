@@ -11,22 +11,22 @@ use Rattle.lock_needs.specs.Waits.{converts_at}
 use Rattle.lock_tree_laws.specs.Forest.{State, idle, opened_of, party_of}
 use Rattle.lock_tree_laws.specs.Wanted.{IsOf, needs_of}
 use Rattle.journal_waits.specs.Holders.{WantsExclusively}
-use Rattle.line_steps.specs.Images.{journal_node}
+use Rattle.session_limits.specs.line_steps.Images.{journal_node}
 use Rattle.line_store.specs.Seats.{Seat, outside, beginning, writing, changing, prepared, committing, rolling_back, closing, reading, dead, done_at, is_committing, IsWriting, IsPrepared, IsReader, IsAlive}
 use Rattle.line_store.specs.Sights.{bare, seat_or}
-use Rattle.session_states.specs.declared.stage.Work.TheVariants.{Opening, Due, Out, Lacking, Housing, Fetching, Lodging}
-use Rattle.session_states.specs.declared.stage.Laying.TheVariants.{Claiming, Changing}
-use Rattle.session_states.specs.declared.stage.End.TheVariants.{Preparing, Journal, Ready, Committing, RollingBack, Leaving}
-use Rattle.session_states.specs.declared.stage.Stage.{Stage}
-use Rattle.session_states.specs.declared.stage.Stage.TheVariants.{Between, Working, Gathering, Reserving, Saying, Ending}
-use Rattle.session_states.specs.declared.stage.Writer.{Writer}
-use Rattle.session_states.specs.declared.stage.Reader.{Reader}
-use Rattle.session_states.specs.declared.stage.Phase.{Phase}
-use Rattle.session_states.specs.declared.stage.Phase.TheVariants.{Outside, Closing, Writing, Reading, Over}
-use Rattle.session_states.specs.Fits.{WantsAtMost}
-use Rattle.session_states.specs.Locks.{lock_of, has_journal, HasJournal}
-use Rattle.session_states.specs.States.{commits_at, commits_in, is_at_rest}
-use Rattle.session_states.proofs.Journal.{has-behind}
+use Rattle.session_limits.specs.session_states.declared.stage.Work.TheVariants.{Opening, Due, Out, Lacking, Housing, Fetching, Lodging}
+use Rattle.session_limits.specs.session_states.declared.stage.Laying.TheVariants.{Claiming, Changing}
+use Rattle.session_limits.specs.session_states.declared.stage.End.TheVariants.{Preparing, Journal, Ready, Committing, RollingBack, Leaving}
+use Rattle.session_limits.specs.session_states.declared.stage.Stage.{Stage}
+use Rattle.session_limits.specs.session_states.declared.stage.Stage.TheVariants.{Between, Working, Gathering, Reserving, Saying, Ending}
+use Rattle.session_limits.specs.session_states.declared.stage.Writer.{Writer}
+use Rattle.session_limits.specs.session_states.declared.stage.Reader.{Reader}
+use Rattle.session_limits.specs.session_states.declared.stage.Phase.{Phase}
+use Rattle.session_limits.specs.session_states.declared.stage.Phase.TheVariants.{Outside, Closing, Writing, Reading, Over}
+use Rattle.session_limits.specs.session_states.Fits.{WantsAtMost}
+use Rattle.session_limits.specs.session_states.Locks.{lock_of, has_journal, HasJournal}
+use Rattle.session_limits.specs.session_states.States.{commits_at, commits_in, is_at_rest}
+use Rattle.session_limits.proofs.of_session_states.Journal.{has-behind}
 use Rattle.session_stands.specs.Seated.{IsSeated, IsStandOf, stand_of, StatementFitsAt}
 
 -- ---- seats

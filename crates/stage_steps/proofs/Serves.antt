@@ -7,15 +7,15 @@ use Rattle.rdb_account.specs.Places.{Place}
 use Rattle.kept_apart.proofs.Alike.{alike-refl}
 use Rattle.session_jobs.specs.Records.{Model, IsOrderly}
 use Rattle.lock_ties.specs.Ties.{AreTied, IsTiedTo, needs_at}
-use Rattle.line_steps.specs.Members.{member, writing}
-use Rattle.line_steps.proofs.Kept.{rests}
-use Rattle.session_states.specs.declared.stage.Writer.{Writer}
-use Rattle.session_states.specs.declared.stage.Phase.TheVariants.{Writing}
-use Rattle.session_states.specs.States.{item_of}
-use Rattle.session_states.specs.Shared.{Shared, with_locks}
-use Rattle.session_states.proofs.Resting.{leaves-others}
-use Rattle.session_states.proofs.Standing.{phase-stays}
-use Rattle.store_counts.proofs.Places.{more-same}
+use Rattle.session_limits.specs.line_steps.Members.{member, writing}
+use Rattle.session_limits.proofs.of_line_steps.Kept.{rests}
+use Rattle.session_limits.specs.session_states.declared.stage.Writer.{Writer}
+use Rattle.session_limits.specs.session_states.declared.stage.Phase.TheVariants.{Writing}
+use Rattle.session_limits.specs.session_states.States.{item_of}
+use Rattle.session_limits.specs.session_states.Shared.{Shared, with_locks}
+use Rattle.session_limits.proofs.of_session_states.Resting.{leaves-others}
+use Rattle.session_limits.proofs.of_session_states.Standing.{phase-stays}
+use Rattle.session_limits.proofs.of_store_counts.Places.{more-same}
 use Rattle.stage_steps.specs.Turns.{Comes}
 
 same-tied : (p : Place) (old new : State) → new.parties ≡ old.parties → new.trail ≡ old.trail → IsTiedTo p old → IsTiedTo p new

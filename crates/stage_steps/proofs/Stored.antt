@@ -14,9 +14,9 @@ use Rattle.line_store.specs.declared.answers.Stepped.TheVariants as stepped
 use Rattle.lock_tree_laws.specs.Forest.{State}
 use Rattle.rdb_types.specs.declared.session.Moment.{Moment}
 use Rattle.session_jobs.specs.Records.{Model, IsOrderly}
-use Rattle.session_states.specs.declared.stage.Phase.{Phase}
-use Rattle.session_states.specs.declared.stage.Life.TheVariants.{Alive}
-use Rattle.session_states.proofs.Parting.{goes-on}
+use Rattle.session_limits.specs.session_states.declared.stage.Phase.{Phase}
+use Rattle.session_limits.specs.session_states.declared.stage.Life.TheVariants.{Alive}
+use Rattle.session_limits.proofs.of_session_states.Parting.{goes-on}
 use Rattle.session_measure.specs.Nearer.{takes_next, has_out}
 use Rattle.session_measure.proofs.Nearer.{nearer-by-steps}
 use Rattle.stage_steps.specs.declared.happening.Happening.TheVariants.{Quiet, Failed, Unworked}

@@ -3,12 +3,12 @@ use Rattle.std.proofs.Common.{◌≡◌, ℕ, Bool, [], refl, subst}
 use Rattle.rdo_ast.specs.declared.reply.Standing.{Standing}
 use Rattle.line_view.specs.Held.{Held}
 use Rattle.session_jobs.specs.Records.{Model, IsOrderly}
-use Rattle.session_states.specs.declared.stage.Stage.{Stage}
-use Rattle.session_states.specs.declared.stage.Phase.{Phase}
-use Rattle.session_states.specs.declared.stage.Phase.TheVariants.{Writing}
-use Rattle.session_states.specs.States.{writer}
-use Rattle.session_states.specs.Shared.{Shared}
-use Rattle.session_states.proofs.Resting.{rests-by}
+use Rattle.session_limits.specs.session_states.declared.stage.Stage.{Stage}
+use Rattle.session_limits.specs.session_states.declared.stage.Phase.{Phase}
+use Rattle.session_limits.specs.session_states.declared.stage.Phase.TheVariants.{Writing}
+use Rattle.session_limits.specs.session_states.States.{writer}
+use Rattle.session_limits.specs.session_states.Shared.{Shared}
+use Rattle.session_limits.proofs.of_session_states.Resting.{rests-by}
 use Rattle.stage_steps.specs.declared.happening.Happening.{Happening}
 use Rattle.stage_steps.specs.Scenes.{Scene, ComesIn}
 use Rattle.stage_steps.specs.Turns.{Comes}

@@ -5,8 +5,8 @@ use Rattle.rdo_ast.specs.declared.reply.Reply.TheVariants.{LockConflict, Deadloc
 use Rattle.rdo_ast.specs.Tree.{Uttered}
 use Rattle.rdo_ast.specs.Views.{uttered_of}
 use Rattle.rdb_account.specs.Legal.{ends_by}
-use Rattle.session_states.specs.declared.stage.Stage.{Stage}
-use Rattle.session_states.specs.declared.stage.Stage.TheVariants.{Working, Gathering, Reserving, Saying}
+use Rattle.session_limits.specs.session_states.declared.stage.Stage.{Stage}
+use Rattle.session_limits.specs.session_states.declared.stage.Stage.TheVariants.{Working, Gathering, Reserving, Saying}
 use Rattle.lock_tree_laws.specs.declared.answer.Want.TheVariants.{Conflict, Deadlock}
 use Rattle.lock_needs.specs.declared.need.Need.{Need}
 use Rattle.lock_tree_laws.specs.Forest.{State, IsWhole, NeedsAreApart, opened_of}

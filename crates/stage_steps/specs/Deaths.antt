@@ -6,12 +6,12 @@ use Rattle.rdb_account.specs.Events.{Event, Died, Recovered}
 use Rattle.rdb_account.specs.Places.{Opening}
 use Rattle.line_store.specs.declared.answers.Fault.{Fault}
 use Rattle.session_jobs.specs.Records.{Model}
-use Rattle.session_states.specs.declared.stage.Phase.{Phase}
-use Rattle.session_states.specs.declared.stage.Life.{Life}
-use Rattle.session_states.specs.declared.stage.Life.TheVariants.{Alive, Dead, Gone}
-use Rattle.session_states.specs.declared.stage.Member.{Member}
-use Rattle.session_states.specs.States.{session, dead_session, gone_session, may_die_in}
-use Rattle.session_states.specs.Steps.{Fall}
+use Rattle.session_limits.specs.session_states.declared.stage.Phase.{Phase}
+use Rattle.session_limits.specs.session_states.declared.stage.Life.{Life}
+use Rattle.session_limits.specs.session_states.declared.stage.Life.TheVariants.{Alive, Dead, Gone}
+use Rattle.session_limits.specs.session_states.declared.stage.Member.{Member}
+use Rattle.session_limits.specs.session_states.States.{session, dead_session, gone_session, may_die_in}
+use Rattle.session_limits.specs.session_states.Steps.{Fall}
 use Rattle.session_measure.specs.Weights.{Falls}
 use Rattle.stage_steps.specs.Nearer.{NearerRecovered}
 use Rattle.stage_steps.specs.Scenes.{Scene, Goes, HasFailed, on_shelf, beside}

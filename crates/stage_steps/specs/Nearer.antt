@@ -7,13 +7,13 @@ use Rattle.lock_tree_laws.specs.Forest.{State, opened_of, party_of}
 use Rattle.lock_tree_laws.specs.LockTable.{granted_at}
 use Rattle.lock_tree_laws.specs.Progress.{is_spare}
 use Rattle.line_store.specs.declared.answers.Fault.{Fault}
-use Rattle.session_states.specs.declared.stage.End.TheVariants.{Preparing, Journal}
-use Rattle.session_states.specs.declared.stage.Stage.{Stage}
-use Rattle.session_states.specs.declared.stage.Stage.TheVariants.{Ending}
-use Rattle.session_states.specs.declared.stage.Phase.{Phase}
-use Rattle.session_states.specs.declared.stage.Phase.TheVariants.{Writing}
-use Rattle.session_states.specs.declared.stage.Member.{Member}
-use Rattle.session_states.specs.States.{dead_session, gone_session}
+use Rattle.session_limits.specs.session_states.declared.stage.End.TheVariants.{Preparing, Journal}
+use Rattle.session_limits.specs.session_states.declared.stage.Stage.{Stage}
+use Rattle.session_limits.specs.session_states.declared.stage.Stage.TheVariants.{Ending}
+use Rattle.session_limits.specs.session_states.declared.stage.Phase.{Phase}
+use Rattle.session_limits.specs.session_states.declared.stage.Phase.TheVariants.{Writing}
+use Rattle.session_limits.specs.session_states.declared.stage.Member.{Member}
+use Rattle.session_limits.specs.session_states.States.{dead_session, gone_session}
 use Rattle.session_measure.specs.Weights.{Beside, Falls}
 use Rattle.session_measure.specs.Nearer.{ComesNearer, StaysNear}
 use Rattle.stage_steps.specs.declared.dying.Recovery.{Recovery}

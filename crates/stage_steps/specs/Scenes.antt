@@ -9,14 +9,14 @@ use Rattle.line_store.specs.Shelves.{Shelf}
 use Rattle.line_store.specs.Calls.{Fails}
 use Rattle.line_store.specs.Sights.{Sight, Behind, Does}
 use Rattle.session_jobs.specs.Records.{Model}
-use Rattle.line_steps.specs.Right.{Ground}
-use Rattle.session_states.specs.declared.stage.Phase.{Phase}
-use Rattle.session_states.specs.declared.stage.Life.{Life}
-use Rattle.session_states.specs.declared.stage.Life.TheVariants.{Alive}
-use Rattle.session_states.specs.declared.stage.Member.{Member}
-use Rattle.session_states.specs.Shared.{Shared}
-use Rattle.session_states.specs.States.{session}
-use Rattle.session_states.specs.Steps.{Finds}
+use Rattle.session_limits.specs.line_steps.Right.{Ground}
+use Rattle.session_limits.specs.session_states.declared.stage.Phase.{Phase}
+use Rattle.session_limits.specs.session_states.declared.stage.Life.{Life}
+use Rattle.session_limits.specs.session_states.declared.stage.Life.TheVariants.{Alive}
+use Rattle.session_limits.specs.session_states.declared.stage.Member.{Member}
+use Rattle.session_limits.specs.session_states.Shared.{Shared}
+use Rattle.session_limits.specs.session_states.States.{session}
+use Rattle.session_limits.specs.session_states.Steps.{Finds}
 use Rattle.session_stands.specs.Seated.{IsSeated, LivesAt}
 use Rattle.session_measure.specs.Weights.{Beside}
 use Rattle.session_measure.specs.Nearer.{ComesNearer}

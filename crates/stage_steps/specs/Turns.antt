@@ -7,13 +7,13 @@ use Rattle.rdb_account.specs.Legal.{ends_by}
 use Rattle.lock_tree_laws.specs.Forest.{State}
 use Rattle.line_store.specs.Shelves.{Shelf}
 use Rattle.session_jobs.specs.Records.{Model}
-use Rattle.session_states.specs.declared.stage.Stage.{Stage}
-use Rattle.session_states.specs.declared.stage.Phase.{Phase}
-use Rattle.session_states.specs.declared.stage.Phase.TheVariants.{Writing, Reading}
-use Rattle.session_states.specs.declared.stage.ReaderStage.{ReaderStage}
-use Rattle.session_states.specs.States.{writer, reader, session}
-use Rattle.session_states.specs.Shared.{Shared}
-use Rattle.session_states.specs.Steps.{Step}
+use Rattle.session_limits.specs.session_states.declared.stage.Stage.{Stage}
+use Rattle.session_limits.specs.session_states.declared.stage.Phase.{Phase}
+use Rattle.session_limits.specs.session_states.declared.stage.Phase.TheVariants.{Writing, Reading}
+use Rattle.session_limits.specs.session_states.declared.stage.ReaderStage.{ReaderStage}
+use Rattle.session_limits.specs.session_states.States.{writer, reader, session}
+use Rattle.session_limits.specs.session_states.Shared.{Shared}
+use Rattle.session_limits.specs.session_states.Steps.{Step}
 use Rattle.stage_steps.specs.declared.terms.Terms.{Terms}
 use Rattle.stage_steps.specs.declared.terms.ReaderTerms.{ReaderTerms}
 use Rattle.stage_steps.specs.declared.items.End.{End}

@@ -2,7 +2,7 @@
 ghost use Rattle.std.specs.Prelude.{◌≡◌, ℕ, List, true};
 ghost use Rattle.line_store.specs.Seats.{IsAlive, IsMember};
 ghost use Rattle.lock_tree_laws.specs.Forest.{State};
-ghost use Rattle.session_states.specs.declared.stage.Phase.{Phase};
+ghost use Rattle.session_limits.specs.session_states.declared.stage.Phase.{Phase};
 ghost use Rattle.stage_steps.specs.Deaths.{DiesIn, RecoversIn};
 ghost use Rattle.stage_steps.specs.Scenes.{scene};
 

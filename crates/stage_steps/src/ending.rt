@@ -1,7 +1,7 @@
 //! The end of a read-write transaction.
 ghost use Rattle.std.specs.Prelude.{◌≡◌, ℕ, List, [], false, true, None, Some};
 ghost use Rattle.journal_waits.specs.Holders.{OthersKeepTo};
-ghost use Rattle.line_steps.specs.Images.{journal_node};
+ghost use Rattle.session_limits.specs.line_steps.Images.{journal_node};
 ghost use Rattle.line_store.specs.Seats.{done_at, is_committing, outside, IsMember, IsPrepared, IsWriting};
 ghost use Rattle.line_store.specs.Sights.{StandsAlone};
 ghost use Rattle.lock_needs.specs.Waits.{converts_at};
@@ -22,7 +22,7 @@ use rdb_types::Session;
 use rdo_ast::reply::Reply;
 use rdo_ast::syntax::{Item, Statement};
 use session_jobs::Statements;
-use session_states::{End, Phase, Stage};
+use session_limits::session_states::{End, Phase, Stage};
 
 /// The script is at its end: the store undoes what the transaction wrote.
 pub fn leave<S: Statements, L: LineStore>(store: &mut L, s: Session, terms: Terms) -> Phase

@@ -2,7 +2,7 @@
 ghost use Rattle.std.specs.Prelude.{◌≡◌, false, [], None};
 ghost use Rattle.rdb_account.specs.Events.{need};
 ghost use Rattle.journal_waits.specs.Holders.{OthersKeepTo};
-ghost use Rattle.line_steps.specs.Images.{journal_node};
+ghost use Rattle.session_limits.specs.line_steps.Images.{journal_node};
 ghost use Rattle.line_store.specs.Seats.{IsMember, IsPrepared, IsWriting, prepared};
 ghost use Rattle.line_store.specs.Shelves.{Shelf};
 ghost use Rattle.line_store.specs.Sights.{Does, Prepares};
@@ -24,7 +24,7 @@ use rdb_types::{Level, Node, Session};
 use rdo_ast::reply::Reply;
 use rdo_ast::syntax::{Item, Statement};
 use session_jobs::Statements;
-use session_states::{End, Stage};
+use session_limits::session_states::{End, Stage};
 use vms_queues::Mode;
 
 /// EX on the after-image journal.

@@ -39,6 +39,7 @@ pub use reading::{
 };
 pub use saying::{change, lay};
 pub use serving::serve;
+pub use session_limits::session_states;
 pub use storing::work_on;
 pub use terms::{ReaderTerms, Terms};
 pub use wanting::want;

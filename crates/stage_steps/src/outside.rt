@@ -5,8 +5,8 @@ ghost use Rattle.rdb_account.specs.Places.{begins, is_writer};
 ghost use Rattle.line_store.specs.Seats.{outside, done_at, IsMember};
 ghost use Rattle.lock_tree_laws.specs.Forest.{State};
 ghost use Rattle.rdo_ast.specs.declared.syntax.Item.{Item as ItemValue};
-ghost use Rattle.session_states.specs.Shared.{Shared};
-ghost use Rattle.session_states.specs.States.{session};
+ghost use Rattle.session_limits.specs.session_states.Shared.{Shared};
+ghost use Rattle.session_limits.specs.session_states.States.{session};
 ghost use Rattle.session_measure.specs.Weights.{Beside};
 ghost use Rattle.stage_steps.specs.Happenings.{events_of, handed_back};
 ghost use Rattle.stage_steps.specs.Leaving.{IsLeftFor};
@@ -23,7 +23,7 @@ use rdb_types::{Copied, Session, Word};
 use rdo_ast::reply::{Reply, Standing};
 use rdo_ast::syntax::Item;
 use session_jobs::{Answer as Worked, Found, Job, Statements};
-use session_states::{Phase, Reader, ReaderStage, ReaderWork, Stage, Work, Writer};
+use session_limits::session_states::{Phase, Reader, ReaderStage, ReaderWork, Stage, Work, Writer};
 use std::alloc::Global;
 
 /// Answers an item that begins no transaction: it is worked over nothing that is known, and reads nothing.

@@ -3,8 +3,8 @@ ghost use Rattle.std.specs.Prelude.{◌≡◌, ◌||◌, ◌⊎◌, ℕ, List, [
 ghost use Rattle.rdb_account.specs.Places.{is_done as is_done_reply};
 ghost use Rattle.line_store.specs.Seats.{done_at, IsMember, IsWriting};
 ghost use Rattle.session_limits.specs.Some.{WriteSome};
-ghost use Rattle.session_states.specs.Locks.{lock_of};
-ghost use Rattle.session_states.specs.Turns.{said_writer};
+ghost use Rattle.session_limits.specs.session_states.Locks.{lock_of};
+ghost use Rattle.session_limits.specs.session_states.Turns.{said_writer};
 ghost use Rattle.lock_tree_laws.specs.Forest.{State};
 ghost use Rattle.stage_steps.specs.Scenes.{ComesIn, scene};
 ghost use Rattle.stage_steps.specs.Turns.{at_stage};
@@ -20,7 +20,7 @@ use rdb_types::Session;
 use rdo_ast::reply::Reply;
 use rdo_ast::syntax::Item;
 use session_jobs::{Statements, TxRecord};
-use session_states::{Laying, Phase, Spoken, Stage, speak};
+use session_limits::session_states::{Laying, Phase, Spoken, Stage, speak};
 use stepped_jobs::apply;
 
 /// Answers a START_TRANSACTION that isn't done as its record says: its transaction ends.

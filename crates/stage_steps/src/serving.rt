@@ -1,8 +1,8 @@
 //! A notice that a session's lock is stronger than it has to be.
 ghost use Rattle.std.specs.Prelude.{◌≡◌, [], true, false, IfOk, OnOk, OnErr};
-ghost use Rattle.session_states.specs.declared.stage.Writer.{Writer};
-ghost use Rattle.session_states.specs.declared.stage.Phase.TheVariants.{Writing};
-ghost use Rattle.session_states.specs.Shared.{Shared, with_locks};
+ghost use Rattle.session_limits.specs.session_states.declared.stage.Writer.{Writer};
+ghost use Rattle.session_limits.specs.session_states.declared.stage.Phase.TheVariants.{Writing};
+ghost use Rattle.session_limits.specs.session_states.Shared.{Shared, with_locks};
 ghost use Rattle.lock_tree_laws.specs.Forest.{party_of};
 ghost use Rattle.lock_tree_laws.specs.LockTable.{granted_at};
 ghost use Rattle.lock_tree_laws.specs.Progress.{is_spare, Falls as LocksFall};

@@ -2,15 +2,15 @@
 ghost use Rattle.std.specs.Prelude.{◌≡◌, ◌⊎◌, true, false, Some};
 ghost use Rattle.rdo_ast.specs.Views.{uttered_of};
 ghost use Rattle.rdb_account.specs.Legal.{ends_by};
-ghost use Rattle.line_steps.specs.Images.{journal_node};
+ghost use Rattle.session_limits.specs.line_steps.Images.{journal_node};
 ghost use Rattle.lock_needs.specs.Needs.{is_plain};
 ghost use Rattle.lock_needs.specs.Nodes.{is_on};
 ghost use Rattle.lock_tree_laws.specs.Forest.{State, opened_of};
 ghost use Rattle.lock_tree_laws.specs.Wanted.{IsOf};
 ghost use Rattle.line_store.specs.Seats.{IsMember, IsWriting};
-ghost use Rattle.session_states.specs.Locks.{lock_of};
-ghost use Rattle.session_states.specs.States.{item_of};
-ghost use Rattle.session_states.specs.declared.stage.Stage.{Stage as StageValue};
+ghost use Rattle.session_limits.specs.session_states.Locks.{lock_of};
+ghost use Rattle.session_limits.specs.session_states.States.{item_of};
+ghost use Rattle.session_limits.specs.session_states.declared.stage.Stage.{Stage as StageValue};
 ghost use Rattle.lock_needs.specs.declared.need.Need.{Need as NeedValue};
 ghost use Rattle.lock_tree_laws.specs.declared.answer.Want.{Want as WantValue};
 ghost use Rattle.stage_steps.specs.Asking.{IsCalled, IsOfStatement, IsReplyTo};
@@ -31,7 +31,7 @@ use rdb_types::{Items, Session};
 use rdo_ast::reply::Reply;
 use rdo_ast::syntax::Item;
 use session_jobs::Statements;
-use session_states::{Phase, Stage, behind_got};
+use session_limits::session_states::{Phase, Stage, behind_got};
 use std::alloc::Global;
 
 // The statement of a stage.

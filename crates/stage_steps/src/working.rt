@@ -2,12 +2,12 @@
 ghost use Rattle.std.specs.Prelude.{◌≡◌, ℕ, List, [], true, false, Some};
 ghost use Rattle.rdo_ast.specs.Views.{uttered_of};
 ghost use Rattle.line_store.specs.Seats.{beginning, IsMember, IsWriting};
-ghost use Rattle.session_states.specs.declared.stage.Stage.{Stage as StageValue};
+ghost use Rattle.session_limits.specs.session_states.declared.stage.Stage.{Stage as StageValue};
 ghost use Rattle.lock_tree_laws.specs.Forest.{State};
 ghost use Rattle.lock_tree_laws.specs.Room.{IsAsBefore};
-ghost use Rattle.session_states.specs.declared.stage.Phase.{Phase as PhaseValue};
+ghost use Rattle.session_limits.specs.session_states.declared.stage.Phase.{Phase as PhaseValue};
 ghost use Rattle.rdo_ast.specs.declared.syntax.Item.{Item as ItemValue};
-ghost use Rattle.session_states.specs.States.{item_of, is_at_rest, session};
+ghost use Rattle.session_limits.specs.session_states.States.{item_of, is_at_rest, session};
 ghost use Rattle.session_measure.specs.Weights.{Beside, items_in};
 ghost use Rattle.session_measure.specs.Nearer.{has_out};
 ghost use Rattle.stage_steps.specs.Leaving.{OnUnworked};
@@ -25,7 +25,7 @@ use rdb_types::Session;
 use rdo_ast::reply::Reply;
 use rdo_ast::syntax::Item;
 use session_jobs::Statements;
-use session_states::{End as EndStage, Phase, Stage, Work};
+use session_limits::session_states::{End as EndStage, Phase, Stage, Work};
 
 /// Takes up the next item. A ROLLBACK has the store undo.
 pub fn take_up<S: Statements, L: LineStore>(

@@ -17,7 +17,7 @@ use Rattle.disk_seats.specs.Ledgers.{resting, undoing, Commit, Ledger, flies, gi
 use Rattle.disk_seats.specs.Members.{MayEnd, CommitStands}
 use Rattle.disk_seats.proofs.Standings.{not_resting}
 use Rattle.disk_seats.proofs.GivenUp.{given_facts}
-use Rattle.ledger_versions.proofs.Restanding.{restands, keeps_others, some_commit, no_commit}
+use Rattle.disk_store.proofs.of_ledger_versions.Restanding.{restands, keeps_others, some_commit, no_commit}
 use Rattle.member_memory.specs.Memory.{Memory, writes_in}
 use Rattle.disk_store.specs.declared.member.Member.{Member}
 use Rattle.disk_store.specs.declared.member.MemberStage.{MemberStage}

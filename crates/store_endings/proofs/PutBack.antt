@@ -19,9 +19,9 @@ use Rattle.line_store.specs.Sights.{bare, Does}
 use Rattle.disk_seats.specs.Ledgers.{undoing, set_standing, stands_as, Ledger}
 use Rattle.disk_seats.specs.Members.{LedgerFacts}
 use Rattle.disk_seats.proofs.Standings.{not_undoing}
-use Rattle.ledger_versions.specs.Readers.{ReaderFacts}
-use Rattle.ledger_versions.proofs.Written.{still_back}
-use Rattle.ledger_versions.proofs.Restanding.{restands, keeps_others}
+use Rattle.disk_store.specs.ledger_versions.Readers.{ReaderFacts}
+use Rattle.disk_store.proofs.of_ledger_versions.Written.{still_back}
+use Rattle.disk_store.proofs.of_ledger_versions.Restanding.{restands, keeps_others}
 use Rattle.member_memory.specs.Memory.{writes_in}
 use Rattle.disk_store.specs.declared.member.Member.{Member}
 use Rattle.disk_store.specs.declared.member.MemberStage.TheVariants as stage

@@ -22,7 +22,7 @@ use Rattle.version_writing.specs.Tables.{HoldsAll, table_of}
 use Rattle.version_writing.specs.Wanting.{IsInUse, Sifts}
 use Rattle.version_writing.specs.declared.snapshot_slots.SnapshotSlots.{SnapshotSlots}
 use Rattle.disk_seats.specs.Ledgers.{Ledger}
-use Rattle.ledger_versions.proofs.Written.{slots_given}
+use Rattle.disk_store.proofs.of_ledger_versions.Written.{slots_given}
 use Rattle.member_memory.specs.Memory.{writes_in}
 use Rattle.disk_store.specs.declared.member.Member.{Member}
 use Rattle.disk_store.specs.declared.member.MemberStage.TheVariants as stage

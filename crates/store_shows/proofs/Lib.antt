@@ -1,2 +1,3 @@
+pub use Rattle.member_steps.proofs as of_member_steps
 pub mod Standing
 pub mod Taken

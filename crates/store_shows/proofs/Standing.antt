@@ -11,8 +11,8 @@ use Rattle.stable_lines.proofs.Stands.{stands}
 use Rattle.stable_lines.proofs.Unique.{one_journal, one_lines}
 use Rattle.line_store.specs.Shelves.{Shelf}
 use Rattle.line_store.specs.Calls.{Lasts, MayStand}
-use Rattle.disk_seats.specs.Ledgers.{Commit, Ledger, progress_of}
-use Rattle.disk_seats.specs.Members.{LedgerFacts}
+use Rattle.member_steps.specs.disk_seats.Ledgers.{Commit, Ledger, progress_of}
+use Rattle.member_steps.specs.disk_seats.Members.{LedgerFacts}
 use Rattle.member_steps.specs.Standing.{HasLines}
 use Rattle.member_steps.proofs.Left.{by_case}
 use Rattle.stable_lines.specs.Slots.{area_file}

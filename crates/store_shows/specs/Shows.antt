@@ -8,7 +8,7 @@ use Rattle.line_store.specs.Seats.{Seat, in_flight}
 use Rattle.line_store.specs.Shelves.{Shelf}
 use Rattle.stable_lines.specs.Progress.{Flight, lines_with}
 use Rattle.line_moves.specs.Classes.{IsClassed}
-use Rattle.disk_seats.specs.Ledgers.{Commit, Ledger}
+use Rattle.member_steps.specs.disk_seats.Ledgers.{Commit, Ledger}
 use Rattle.member_steps.specs.Standing.{HasLines}
 
 -- An image that a crash since this moment might have left stands for these lines, and opening can start from it.

@@ -6,8 +6,8 @@ ghost use Rattle.line_view.specs.Knowledge.{Lines};
 ghost use Rattle.line_moves.specs.Calls.{OnlyWrites};
 ghost use Rattle.line_store.specs.Shelves.{Shelf};
 ghost use Rattle.line_store.specs.Calls.{Lasts, MayStand};
-ghost use Rattle.disk_seats.specs.Ledgers.{Ledger};
-ghost use Rattle.disk_seats.specs.Members.{LedgerFacts};
+ghost use Rattle.member_steps.specs.disk_seats.Ledgers.{Ledger};
+ghost use Rattle.member_steps.specs.disk_seats.Members.{LedgerFacts};
 ghost use Rattle.store_shows.specs.Shows.{Leaves, ShowsLines};
 
 use rdb_outside::Disk;

@@ -10,7 +10,7 @@ use Rattle.std.proofs.lemmas.Map.Lookups.{exact_unsigned}
 use Rattle.std.proofs.lemmas.Option.{none-some, same_Some}
 use Rattle.catalog.specs.declared.directory.LogicalArea.{LogicalArea}
 use Rattle.catalog.specs.Directory.{area_order, numbered}
-use Rattle.sound_changes.proofs.Basics.{equal, less, fails, number_is, none_below}
+use Rattle.row_writes.proofs.of_sound_changes.Basics.{equal, less, fails, number_is, none_below}
 use Rattle.stored_schema.specs.Indexes.{but_for}
 
 -- ---- areas

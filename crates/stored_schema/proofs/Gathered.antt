@@ -16,9 +16,9 @@ use Rattle.catalog.specs.declared.directory.LogicalArea.{LogicalArea}
 use Rattle.catalog.specs.declared.directory.PlacedLine.{PlacedLine}
 use Rattle.catalog.specs.declared.reading.Catalog.{Catalog}
 use Rattle.catalog.specs.Directory.{area_order, numbered}
-use Rattle.sound_changes.specs.Standing.{IsDone}
-use Rattle.sound_changes.proofs.Basics.{equal, less, number_is, number_tests, sorted_put, sorted_without}
-use Rattle.sound_changes.specs.InTurn.{IsIndexOn}
+use Rattle.row_writes.specs.sound_changes.Standing.{IsDone}
+use Rattle.row_writes.proofs.of_sound_changes.Basics.{equal, less, number_is, number_tests, sorted_put, sorted_without}
+use Rattle.row_writes.specs.sound_changes.InTurn.{IsIndexOn}
 use Rattle.row_writes.specs.Target.{AreOwn}
 use Rattle.stored_schema.specs.declared.indexes.RelationIndexes.{RelationIndexes}
 use Rattle.stored_schema.specs.Indexes.{Sorted, own_of, but_for, with_index, indexed_from, indexed_in, lines_of, both_of, both_from, lines_in, lines_on, indexes_in, path_of}

@@ -24,9 +24,9 @@ use Rattle.catalog.specs.declared.reading.Catalog.{Catalog}
 use Rattle.catalog.specs.Directory.{area_order, numbered, directory}
 use Rattle.catalog.specs.Schema.{catalog_tables, tables_from}
 use Rattle.catalog.specs.Reading.{IsCatalogOf}
-use Rattle.sound_changes.proofs.Basics.{equal, sorted_put, number_is}
-use Rattle.sound_changes.proofs.Named.{Fits, all_fit}
-use Rattle.sound_changes.specs.InTurn.{IsIndexOn}
+use Rattle.row_writes.proofs.of_sound_changes.Basics.{equal, sorted_put, number_is}
+use Rattle.row_writes.proofs.of_sound_changes.Named.{Fits, all_fit}
+use Rattle.row_writes.specs.sound_changes.InTurn.{IsIndexOn}
 use Rattle.row_writes.specs.Target.{named_index}
 use Rattle.stored_schema.specs.Indexes.{Sorted, lines_of, lines_on}
 use Rattle.stored_schema.proofs.Entries.{same_test, same_entries}

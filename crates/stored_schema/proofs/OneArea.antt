@@ -23,9 +23,9 @@ use Rattle.catalog.specs.Directory.{area_order, numbered, directory}
 use Rattle.catalog.specs.Schema.{with_thing, tables_from, catalog_tables, index_area, stands}
 use Rattle.catalog.specs.Reading.{IsPresent}
 use Rattle.catalog.proofs.Differences.{index_parts, one_key}
-use Rattle.sound_changes.proofs.Basics.{equal}
-use Rattle.sound_changes.proofs.Named.{Fits}
-use Rattle.sound_changes.proofs.Listed.{one_placed}
+use Rattle.row_writes.proofs.of_sound_changes.Basics.{equal}
+use Rattle.row_writes.proofs.of_sound_changes.Named.{Fits}
+use Rattle.row_writes.proofs.of_sound_changes.Listed.{one_placed}
 use Rattle.row_writes.specs.Target.{named_index}
 
 abbrev pub index_of : IndexLine → IndexOf

@@ -10,8 +10,8 @@ use Rattle.line_view.specs.Knowledge.{Lines}
 use Rattle.catalog_lines.specs.declared.line.IndexLine.{IndexLine}
 use Rattle.catalog.specs.declared.reading.Catalog.{Catalog}
 use Rattle.schema_alone.specs.Schema.{bare}
-use Rattle.sound_changes.specs.Standing.{IsSoundAs}
-use Rattle.sound_changes.proofs.Schemas.{catalogs_schema}
+use Rattle.row_writes.specs.sound_changes.Standing.{IsSoundAs}
+use Rattle.row_writes.proofs.of_sound_changes.Schemas.{catalogs_schema}
 use Rattle.row_writes.specs.declared.target.TargetRelation.{TargetRelation}
 use Rattle.row_writes.specs.Target.{AreOwn, named_index}
 use Rattle.stored_schema.specs.Indexes.{lines_on}

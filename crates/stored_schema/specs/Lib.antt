@@ -1,2 +1,3 @@
+pub use Rattle.row_writes.specs as row_writes
 pub mod Indexes
 pub mod Targets

@@ -6,7 +6,7 @@ use Rattle.rdb_meaning.specs.declared.tables.Tables.{Tables}
 use Rattle.rdb_meaning.specs.Contents.{indexes_on, class_of}
 use Rattle.catalog.specs.declared.reading.Catalog.{Catalog}
 use Rattle.relation_rows.specs.declared.stored.StoredRelation.{StoredRelation}
-use Rattle.sound_lines.specs.Contents.{versions_in, version_of}
+use Rattle.row_writes.specs.sound_lines.Contents.{versions_in, version_of}
 use Rattle.row_writes.specs.declared.target.TargetRelation.{TargetRelation}
 use Rattle.row_writes.specs.Target.{IsTarget, named_index}
 

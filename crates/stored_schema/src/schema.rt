@@ -4,7 +4,7 @@ ghost use Rattle.rdb_meaning.specs.declared.tables.Tables.{Tables as Kept};
 ghost use Rattle.rdb_meaning.specs.declared.tables.Relation.{Relation as Rows};
 ghost use Rattle.rdb_meaning.specs.Contents.{relation_named};
 ghost use Rattle.line_view.specs.Knowledge.{Lines};
-ghost use Rattle.sound_changes.specs.Standing.{IsSoundAs};
+ghost use Rattle.row_writes.specs.sound_changes.Standing.{IsSoundAs};
 ghost use Rattle.stored_schema.specs.Indexes.{path_of, lines_on};
 ghost use Rattle.stored_schema.specs.Targets.{HasStored, HasTarget};
 
@@ -17,7 +17,7 @@ use rdb_types::{Chars, NoMemory};
 use relation_rows::StoredRelation;
 use row_sizes::class_of;
 use row_writes::TargetRelation;
-use sound_lines::{version_of, versions_of};
+use row_writes::sound_lines::{version_of, versions_of};
 use std::alloc::Global;
 use std::marker::Model;
 
@@ -31,7 +31,7 @@ pub struct Schema {
 
 impl Model for Schema {
     ghost use Rattle.std.specs.Prelude.{◌≡◌};
-    ghost use Rattle.sound_lines.specs.Contents.{versions_in};
+    ghost use Rattle.row_writes.specs.sound_lines.Contents.{versions_in};
     ghost use Rattle.catalog.specs.declared.reading.Catalog.{Catalog as Directory};
     ghost use Rattle.stored_schema.specs.Indexes.{indexes_in};
 

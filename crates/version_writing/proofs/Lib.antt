@@ -1,3 +1,4 @@
+pub use Rattle.disk_versions.proofs as of_disk_versions
 pub mod Counted
 pub mod Sifted
 pub mod Written

@@ -1,3 +1,4 @@
+pub use Rattle.rmu_commands.specs as rmu_commands
 pub use Rattle.line_runs.specs.line_cluster as line_cluster
 pub use Rattle.line_runs.specs.line_drive as line_drive
 pub use Rattle.line_runs.specs as line_runs

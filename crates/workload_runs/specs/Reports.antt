@@ -4,7 +4,7 @@ use Rattle.rdb_outside.specs.Disk.{View}
 use Rattle.rdb_account.specs.declared.event.Event.{Event}
 use Rattle.stable_lines.specs.Journal.{Journal, IsJournalOf}
 use Rattle.rmu_texts.specs.declared.faults.VerifyFault.{VerifyFault}
-use Rattle.rmu_verify.specs.Verified.{AreFaults}
+use Rattle.faultless_databases.specs.rmu_verify.Verified.{AreFaults}
 use Rattle.rmu_commands.specs.Written.{HasText, Writes}
 use Rattle.workload_scripts.specs.declared.report.Report.{Report}
 use Rattle.workload_scripts.specs.Report.{report_text}

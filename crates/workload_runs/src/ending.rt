@@ -12,12 +12,12 @@ ghost use Rattle.workload_runs.specs.Statuses.{is_run_status, is_workload_status
 use crate::accounts::Runs;
 use crate::saying::status_of_fault;
 use crate::whole::WorkloadEnd;
+use faultless_databases::rmu_verify::verify;
 use line_runs::Halt;
 use rdb_account::Events;
 use rdb_outside::{Disk, Sink};
 use rdb_types::Bytes;
 use rmu_texts::VerifyFault;
-use rmu_verify::verify;
 use script_streams::write_all;
 use std::alloc::Global;
 use workload_replies::{Counted, counted_in};

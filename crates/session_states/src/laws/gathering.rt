@@ -11,8 +11,8 @@ ghost use Rattle.rdb_types.specs.declared.keys.Dbkey.{Dbkey};
 ghost use Rattle.store_counts.specs.Counts.{TakesAt};
 ghost use Rattle.line_store.specs.Shelves.{Shelf};
 ghost use Rattle.line_store.specs.Calls.{KeepsOthers, KeepsSpace};
-ghost use Rattle.session_jobs.specs.Jobs.{IsFound};
-ghost use Rattle.session_jobs.specs.declared.jobs.Found.TheVariants.{Missing};
+ghost use Rattle.line_steps.specs.session_jobs.Jobs.{IsFound};
+ghost use Rattle.line_steps.specs.session_jobs.declared.jobs.Found.TheVariants.{Missing};
 ghost use Rattle.stepped_jobs.specs.More.{KnowsMore};
 ghost use Rattle.session_states.specs.declared.stage.Gather.TheVariants.{Locking, Housing, Reading, Lodging};
 ghost use Rattle.session_states.specs.declared.stage.Work.TheVariants.{Out, Lacking, Fetching};
@@ -24,7 +24,7 @@ ghost use Rattle.session_states.specs.Shared.{Shared, with_shelf};
 ghost use Rattle.session_states.specs.States.{session, writer};
 ghost use Rattle.session_states.specs.Steps.{Step};
 
-use session_jobs::Statements;
+use line_steps::session_jobs::Statements;
 
 /// All that a job named is locked and read in turn before the job is due again, so that it isn't worked again for each need. The rest may
 /// be let go at any need: so it is at the last one. For a room a line is named, locked and read, and its page is taken; the room itself is

@@ -7,15 +7,15 @@ ghost use Rattle.rdo_ast.specs.Views.{uttered_of};
 ghost use Rattle.rdb_account.specs.Events.{Said};
 ghost use Rattle.rdb_account.specs.Places.{begins};
 ghost use Rattle.line_view.specs.Held.{knows, nothing};
-ghost use Rattle.session_jobs.specs.Jobs.{IsFound};
-ghost use Rattle.session_jobs.specs.declared.jobs.Found.TheVariants.{Done};
-ghost use Rattle.session_jobs.specs.declared.jobs.TxRecord.{TxRecord};
+ghost use Rattle.line_steps.specs.session_jobs.Jobs.{IsFound};
+ghost use Rattle.line_steps.specs.session_jobs.declared.jobs.Found.TheVariants.{Done};
+ghost use Rattle.line_steps.specs.session_jobs.declared.jobs.TxRecord.{TxRecord};
 ghost use Rattle.session_states.specs.declared.stage.Phase.TheVariants.{Outside};
 ghost use Rattle.session_states.specs.States.{session};
 ghost use Rattle.session_states.specs.Shared.{Shared};
 ghost use Rattle.session_states.specs.Steps.{Step};
 
-use session_jobs::Statements;
+use line_steps::session_jobs::Statements;
 
 /// Outside a transaction an item that begins none is worked over nothing that is known, and said. Where no memory is found each item may be
 /// refused there, also one that would begin a transaction.

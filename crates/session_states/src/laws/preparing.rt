@@ -14,7 +14,7 @@ ghost use Rattle.line_store.specs.Seats.{prepared_by, given_back};
 ghost use Rattle.line_store.specs.Shelves.{Shelf};
 ghost use Rattle.line_store.specs.Calls.{Moves};
 ghost use Rattle.line_steps.specs.Images.{journal_node};
-ghost use Rattle.lock_ties.specs.Ties.{IsCall, wanted_at};
+ghost use Rattle.line_steps.specs.lock_ties.Ties.{IsCall, wanted_at};
 ghost use Rattle.session_states.specs.declared.stage.End.TheVariants.{Preparing, Journal, Ready};
 ghost use Rattle.session_states.specs.declared.stage.Stage.TheVariants.{Between, Ending};
 ghost use Rattle.session_states.specs.declared.stage.Phase.TheVariants.{Writing};
@@ -22,7 +22,7 @@ ghost use Rattle.session_states.specs.States.{writer, session};
 ghost use Rattle.session_states.specs.Shared.{Shared, with_both, RestsWith};
 ghost use Rattle.session_states.specs.Steps.{Step};
 
-use session_jobs::Statements;
+use line_steps::session_jobs::Statements;
 
 /// Room and memory of a COMMIT are taken in the step in which it first asks for the journal, so that the account knows for whom room is
 /// taken. They are given back where no memory is found for its want: as it opens, or later.

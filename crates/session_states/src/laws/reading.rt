@@ -15,9 +15,9 @@ ghost use Rattle.line_view.specs.declared.need.Need.{Need};
 ghost use Rattle.line_store.specs.Seats.{outside, reading};
 ghost use Rattle.line_store.specs.Shelves.{Shelf, seen_by};
 ghost use Rattle.line_store.specs.Calls.{KeepsOthers, Moves, KeepsSpace};
-ghost use Rattle.session_jobs.specs.Jobs.{IsFound};
-ghost use Rattle.session_jobs.specs.declared.jobs.Found.TheVariants.{Done};
-ghost use Rattle.session_jobs.specs.declared.jobs.TxRecord.{TxRecord};
+ghost use Rattle.line_steps.specs.session_jobs.Jobs.{IsFound};
+ghost use Rattle.line_steps.specs.session_jobs.declared.jobs.Found.TheVariants.{Done};
+ghost use Rattle.line_steps.specs.session_jobs.declared.jobs.TxRecord.{TxRecord};
 ghost use Rattle.session_states.specs.declared.stage.ReaderWork.TheVariants.{Due, Out};
 ghost use Rattle.session_states.specs.declared.stage.ReaderStage.{ReaderStage};
 ghost use Rattle.session_states.specs.declared.stage.ReaderStage.TheVariants.{Between, Working, Gathering};
@@ -26,7 +26,7 @@ ghost use Rattle.session_states.specs.States.{reader, reader_item, session};
 ghost use Rattle.session_states.specs.Shared.{Shared, with_shelf};
 ghost use Rattle.session_states.specs.Steps.{Step};
 
-use session_jobs::Statements;
+use line_steps::session_jobs::Statements;
 
 /// A read-only transaction begins as the store is told so, and reads the lines that are committed then, whatever others commit. Its
 /// statements are worked, all that a job named is read in turn before it is due again, and they are said at once. A need may be passed over,

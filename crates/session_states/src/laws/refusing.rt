@@ -16,8 +16,8 @@ ghost use Rattle.line_view.specs.Held.{Held};
 ghost use Rattle.line_store.specs.Seats.{rolled_back};
 ghost use Rattle.line_store.specs.Shelves.{Shelf};
 ghost use Rattle.line_store.specs.Calls.{Moves};
-ghost use Rattle.lock_ties.specs.Ties.{IsCall, wanted_at};
-ghost use Rattle.session_jobs.specs.declared.jobs.TxRecord.{TxRecord};
+ghost use Rattle.line_steps.specs.lock_ties.Ties.{IsCall, wanted_at};
+ghost use Rattle.line_steps.specs.session_jobs.declared.jobs.TxRecord.{TxRecord};
 ghost use Rattle.session_states.specs.declared.stage.Laying.TheVariants.{Claiming};
 ghost use Rattle.session_states.specs.declared.stage.Stage.{Stage};
 ghost use Rattle.session_states.specs.declared.stage.Stage.TheVariants.{Between, Saying};
@@ -27,7 +27,7 @@ ghost use Rattle.session_states.specs.States.{item_of, is_at_rest, writer, sessi
 ghost use Rattle.session_states.specs.Shared.{Shared, with_locks, with_both, RestsWith};
 ghost use Rattle.session_states.specs.Steps.{Step};
 
-use session_jobs::Statements;
+use line_steps::session_jobs::Statements;
 
 /// Where the tree refuses the lock that a statement's stage wants, its askings are followed by the statement's refusal, which has its
 /// cause, and the transaction goes on; or by want of memory for that reply. So it is once something was said in it. A COMMIT isn't refused by

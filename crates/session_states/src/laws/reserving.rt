@@ -11,10 +11,10 @@ ghost use Rattle.lock_needs.specs.declared.need.Need.{Need as LockNeed};
 ghost use Rattle.rdb_account.specs.Places.{Opening, Place};
 ghost use Rattle.rdb_account.specs.AskedFor.{reservations_ask};
 ghost use Rattle.line_view.specs.Held.{Held, knows};
-ghost use Rattle.session_jobs.specs.Jobs.{IsFound, WhereItAgrees};
-ghost use Rattle.session_jobs.specs.declared.jobs.Found.TheVariants.{Done};
-ghost use Rattle.session_jobs.specs.declared.jobs.TxRecord.{TxRecord};
-ghost use Rattle.lock_ties.specs.Ties.{needs_at};
+ghost use Rattle.line_steps.specs.session_jobs.Jobs.{IsFound, WhereItAgrees};
+ghost use Rattle.line_steps.specs.session_jobs.declared.jobs.Found.TheVariants.{Done};
+ghost use Rattle.line_steps.specs.session_jobs.declared.jobs.TxRecord.{TxRecord};
+ghost use Rattle.line_steps.specs.lock_ties.Ties.{needs_at};
 ghost use Rattle.line_steps.specs.Right.{Ground};
 ghost use Rattle.session_states.specs.declared.stage.Work.TheVariants.{Out};
 ghost use Rattle.session_states.specs.declared.stage.Laying.TheVariants.{Claiming};
@@ -26,7 +26,7 @@ ghost use Rattle.session_states.specs.Shared.{Shared};
 ghost use Rattle.session_states.specs.States.{session, writer};
 ghost use Rattle.session_states.specs.Steps.{Finds, Step};
 
-use session_jobs::Statements;
+use line_steps::session_jobs::Statements;
 
 /// A START_TRANSACTION whose job came back with a record may want locks that its reservations ask for, over all that agrees with what the
 /// session knows, in any order. They are wanted, got or refused as the lock of any stage; once the stage wants none, all of them are got,

@@ -9,7 +9,7 @@ ghost use Rattle.line_view.specs.Held.{Held};
 ghost use Rattle.line_store.specs.Seats.{IsMember};
 ghost use Rattle.line_store.specs.Shelves.{Shelf};
 ghost use Rattle.line_store.specs.Calls.{Changes, IsDone};
-ghost use Rattle.session_jobs.specs.declared.jobs.TxRecord.{TxRecord};
+ghost use Rattle.line_steps.specs.session_jobs.declared.jobs.TxRecord.{TxRecord};
 ghost use Rattle.session_states.specs.declared.stage.Laying.TheVariants.{Claiming, Changing};
 ghost use Rattle.session_states.specs.declared.stage.Stage.TheVariants.{Saying};
 ghost use Rattle.session_states.specs.declared.stage.Phase.TheVariants.{Writing};
@@ -20,7 +20,7 @@ ghost use Rattle.session_states.specs.Shared.{Shared, with_shelf};
 ghost use Rattle.session_states.specs.Fits.{Follows};
 ghost use Rattle.session_states.specs.Steps.{Step};
 
-use session_jobs::Statements;
+use line_steps::session_jobs::Statements;
 
 /// Once the lines of all its writes are locked a record is laid, and what the session knows follows the writes. It is said when the store
 /// has laid it, and at once where it writes nothing. A START_TRANSACTION that isn't done is said otherwise.

@@ -10,7 +10,7 @@ ghost use Rattle.lock_tree_laws.specs.Forest.{State, NeedsAreApart};
 ghost use Rattle.lock_tree_laws.specs.Wanted.{Answered, needs_of};
 ghost use Rattle.rdb_account.specs.Events.{Demoted, Got};
 ghost use Rattle.line_view.specs.Held.{Held};
-ghost use Rattle.lock_ties.specs.Ties.{IsCall, wanted_at};
+ghost use Rattle.line_steps.specs.lock_ties.Ties.{IsCall, wanted_at};
 ghost use Rattle.session_states.specs.declared.stage.Stage.{Stage};
 ghost use Rattle.session_states.specs.declared.stage.Writer.{Writer};
 ghost use Rattle.session_states.specs.declared.stage.Phase.TheVariants.{Writing};
@@ -20,7 +20,7 @@ ghost use Rattle.session_states.specs.States.{writer, session};
 ghost use Rattle.session_states.specs.Shared.{Shared, with_locks};
 ghost use Rattle.session_states.specs.Steps.{Step};
 
-use session_jobs::Statements;
+use line_steps::session_jobs::Statements;
 
 /// A call on the tree for the lock that a stage wants is its askings in the account. While the want is open, since a notice is due or it
 /// sleeps, the stage stays; where the lock is got, that is said too, and the stage comes to the one behind it. A notice that is served is

@@ -13,9 +13,9 @@ ghost use Rattle.line_view.specs.declared.need.Need.TheVariants.{Line, Room as O
 ghost use Rattle.line_view.specs.declared.need.Room.{Room};
 ghost use Rattle.line_store.specs.Shelves.{Shelf};
 ghost use Rattle.line_store.specs.Calls.{KeepsOthers, KeepsSpace};
-ghost use Rattle.session_jobs.specs.Jobs.{IsFound};
-ghost use Rattle.session_jobs.specs.declared.jobs.Found.TheVariants.{Done, Missing, Bad};
-ghost use Rattle.session_jobs.specs.declared.jobs.TxRecord.{TxRecord};
+ghost use Rattle.line_steps.specs.session_jobs.Jobs.{IsFound};
+ghost use Rattle.line_steps.specs.session_jobs.declared.jobs.Found.TheVariants.{Done, Missing, Bad};
+ghost use Rattle.line_steps.specs.session_jobs.declared.jobs.TxRecord.{TxRecord};
 ghost use Rattle.line_steps.specs.Right.{Ground};
 ghost use Rattle.store_counts.specs.Counts.{TakesAt};
 ghost use Rattle.session_states.specs.declared.stage.Work.TheVariants.{Due, Out, Lacking, Housing, Fetching, Lodging};
@@ -28,7 +28,7 @@ ghost use Rattle.session_states.specs.Shared.{Shared, with_shelf};
 ghost use Rattle.session_states.specs.Fits.{Learns};
 ghost use Rattle.session_states.specs.Steps.{Finds, Step};
 
-use session_jobs::Statements;
+use line_steps::session_jobs::Statements;
 
 /// The next item is taken up; its job is handed out and comes back with a record, or with what it lacks. No job of a session calls a
 /// line bad.

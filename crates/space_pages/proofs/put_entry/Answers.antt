@@ -1,7 +1,7 @@
 use Rattle.std.proofs.Common.{◌≡◌, ◌+◌, refl, take, arith}
 use Rattle.std.proofs.lemmas.List.{length-take-le}
-use Rattle.slot_fields.proofs.Laws.{laid_part, laid_before}
-use Rattle.slot_fields.specs.Fields.{laid}
+use Rattle.area_files.proofs.of_slot_fields.Laws.{laid_part, laid_before}
+use Rattle.area_files.specs.slot_fields.Fields.{laid}
 use Rattle.space_pages.specs.Space.{entry_place}
 use Rattle.space_pages.proofs.Entries.{entry_fields}
 use Rattle.space_pages.proofs.put_entry.Goals as goal

@@ -1,5 +1,5 @@
 use Rattle.std.proofs.Common.{◌∙◌, [], refl, rules, arith}
-use Rattle.slot_fields.proofs.Laws.{laid_part, drop_behind}
+use Rattle.area_files.proofs.of_slot_fields.Laws.{laid_part, drop_behind}
 use Rattle.space_pages.specs.Space.{head_fields}
 use Rattle.space_pages.proofs.put_head.Goals as goal
 

@@ -1,6 +1,6 @@
 use Rattle.std.proofs.Common.{ℕ, ◌≡◌, ◌≢◌, ◌≤◌, ◌+◌, ◌-◌, ◌∙◌, ap, sym, subst, take, arith, ⊎_elim}
-use Rattle.slot_fields.proofs.Laws.{part_before, drop_behind}
-use Rattle.slot_fields.specs.Fields.{HasPart}
+use Rattle.area_files.proofs.of_slot_fields.Laws.{part_before, drop_behind}
+use Rattle.area_files.specs.slot_fields.Fields.{HasPart}
 use Rattle.area_files.specs.Areas.{index_of, space_page_of}
 use Rattle.area_files.specs.declared.SpaceEntry.{SpaceEntry}
 use Rattle.space_pages.specs.Space.{head_fields, entry_place, level_at, entries_of}

@@ -1,5 +1,5 @@
 use Rattle.std.proofs.Common.{◌≡◌, ◌∙◌, ◌+◌, ◌-◌, ap, refl, length, take, rules, arith}
-use Rattle.slot_fields.proofs.Laws.{laid_out}
+use Rattle.rdb_page.proofs.of_slot_fields.Laws.{laid_out}
 use Rattle.rdb_page.proofs.States.{byte_small}
 use Rattle.aij_journal.specs.Part.{part_fields}
 use Rattle.aij_journal.proofs.part.put_slot.Goals as goal

@@ -3,9 +3,9 @@ use Rattle.rdo_ast.specs.Views.{uttered_of}
 use Rattle.line_view.specs.Held.{knows}
 use Rattle.session_jobs.specs.declared.jobs.Job.{Job}
 use Rattle.session_jobs.specs.Jobs.{IsFound}
-use Rattle.session_stands.specs.Seated.{IsSeated}
-use Rattle.session_stands.proofs.Seats.{writing-seat, reader-seat}
-use Rattle.stage_steps.specs.Scenes.{ComesIn, scene}
+use Rattle.job_steps.specs.session_stands.Seated.{IsSeated}
+use Rattle.job_steps.proofs.of_session_stands.Seats.{writing-seat, reader-seat}
+use Rattle.job_steps.specs.stage_steps.Scenes.{ComesIn, scene}
 use Rattle.answered_steps.specs.Absences.{phase_with}
 use Rattle.answered_steps.specs.declared.answered.Absence.{Absence}
 use Rattle.answered_steps.specs.declared.answered.Absence.TheVariants.{Writing, Reading}

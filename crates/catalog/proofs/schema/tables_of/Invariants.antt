@@ -1,5 +1,5 @@
 use Rattle.std.proofs.Common.{◌≡◌, drop}
-use Rattle.rdb_meaning.specs.Contents.{no_tables}
+use Rattle.rdb_definitions.specs.rdb_meaning.Contents.{no_tables}
 use Rattle.catalog.specs.Schema.{tables_from}
 use Rattle.catalog.proofs.schema.tables_of.Given as goal
 

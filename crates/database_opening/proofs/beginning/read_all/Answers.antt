@@ -1,11 +1,11 @@
 use Rattle.std.proofs.Common.{rules, ◌≡◌, ◌∙◌, List, ℕ, sym, subst}
 use Rattle.rdb_outside.specs.Disk.{Image}
 use Rattle.rdb_outside.specs.Runs.{then_reads}
-use Rattle.new_database.specs.Maker.{root_file}
-use Rattle.stable_lines.specs.Slots.{ruj_file}
-use Rattle.stable_lines.specs.Journal.{IsJournalOf}
-use Rattle.stable_lines.specs.Kept.{IsRujHeader, Kept}
-use Rattle.line_moves.proofs.Runs.{still_tells}
+use Rattle.line_opening.specs.new_database.Maker.{root_file}
+use Rattle.line_opening.specs.stable_lines.Slots.{ruj_file}
+use Rattle.line_opening.specs.stable_lines.Journal.{IsJournalOf}
+use Rattle.line_opening.specs.stable_lines.Kept.{IsRujHeader, Kept}
+use Rattle.line_opening.proofs.of_line_moves.Runs.{still_tells}
 use Rattle.line_opening.specs.Headers.{AreNamed}
 use Rattle.line_opening.proofs.Passed.{image_same}
 use Rattle.database_opening.specs.Reading.{IsOpenedRoot, AreCounted}

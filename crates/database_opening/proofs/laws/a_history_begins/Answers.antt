@@ -1,6 +1,6 @@
 use Rattle.std.proofs.Common.{◌≡◌, None, Some, refl}
-use Rattle.stable_lines.specs.History.{IsAt}
-use Rattle.stable_lines.proofs.Histories.{since_commit}
+use Rattle.line_opening.specs.stable_lines.History.{IsAt}
+use Rattle.line_opening.proofs.of_stable_lines.Histories.{since_commit}
 use Rattle.database_opening.specs.Start.{beginning_with, history_with}
 use Rattle.database_opening.proofs.laws.a_history_begins.Goals as goal
 

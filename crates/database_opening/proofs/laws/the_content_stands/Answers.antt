@@ -1,7 +1,7 @@
 use Rattle.std.proofs.Common.{arith}
 use Rattle.rdb_outside.specs.Disk.{Pending}
-use Rattle.stable_lines.proofs.Stands.{stands}
-use Rattle.line_moves.proofs.Runs.{pends}
+use Rattle.line_opening.proofs.of_stable_lines.Stands.{stands}
+use Rattle.line_opening.proofs.of_line_moves.Runs.{pends}
 use Rattle.database_opening.proofs.laws.the_content_stands.Goals as goal
 
 pub returns : goal.returns

@@ -1,7 +1,7 @@
 use Rattle.std.proofs.Common.{rules, ◌≡◌, Bool, false, IsTrue, subst}
 use Rattle.rdb_outside.specs.Runs.{no_calls}
 use Rattle.area_files.specs.Areas.{IsSpacePage}
-use Rattle.line_moves.proofs.Runs.{on_ok}
+use Rattle.line_opening.proofs.of_line_moves.Runs.{on_ok}
 use Rattle.line_opening.proofs.Counted.{if_ok}
 use Rattle.database_opening.proofs.owners.next_owner.Goals as goal
 

@@ -1,8 +1,8 @@
 use Rattle.std.proofs.Common.{rules, ◌≡◌, ◌+◌, ◌-◌, ◌≤◌, ◌∙◌, ℕ, List, [], ◌∷◌, ◌++◌, get_or, refl, sym, ap, subst, ⊎_elim, arith}
 use Rattle.rdb_outside.specs.Runs.{no_calls, then_reads}
 use Rattle.space_pages.specs.Space.{IsSpace, owner_of}
-use Rattle.stable_lines.specs.Slots.{area_file}
-use Rattle.line_moves.proofs.Runs.{still_tells}
+use Rattle.line_opening.specs.stable_lines.Slots.{area_file}
+use Rattle.line_opening.proofs.of_line_moves.Runs.{still_tells}
 use Rattle.database_opening.proofs.PageOwners.{same_space, own_space, space_or_data, one_more_owner}
 use Rattle.database_opening.proofs.owners.read_owners.Goals as goal
 

@@ -1,7 +1,7 @@
 use Rattle.std.proofs.Common.{◌≡◌, ◌+◌, ◌-◌, ◌≤◌, ℕ, IsTrue, get_or, length}
 use Rattle.rdb_outside.specs.Disk.{OnlyReads}
 use Rattle.area_files.specs.Areas.{IsDataPage, space_page_of}
-use Rattle.stable_lines.specs.Slots.{area_file}
+use Rattle.line_opening.specs.stable_lines.Slots.{area_file}
 use Rattle.database_opening.specs.Owners.{owner_said}
 use Rattle.database_opening.proofs.owners.read_owners.Given as goal
 

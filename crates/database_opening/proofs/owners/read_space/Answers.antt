@@ -1,7 +1,7 @@
 use Rattle.std.proofs.Common.{◌≡◌, ◌-◌, ◌∙◌, List, ℕ, sym, subst}
 use Rattle.space_pages.specs.Space.{IsSpace}
-use Rattle.stable_lines.specs.Slots.{area_file}
-use Rattle.line_moves.proofs.Runs.{reads_once}
+use Rattle.line_opening.specs.stable_lines.Slots.{area_file}
+use Rattle.line_opening.proofs.of_line_moves.Runs.{reads_once}
 use Rattle.database_opening.proofs.owners.read_space.Goals as goal
 
 pub returns-in_err-read-clause-reads : goal.returns-in_err-read-clause-reads

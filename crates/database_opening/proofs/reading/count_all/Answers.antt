@@ -1,8 +1,8 @@
 use Rattle.std.proofs.Common.{rules, ◌≤◌, ◌+◌, ◌∙◌, get_or, refl, arith}
 use Rattle.std.proofs.lemmas.List.{length-set}
 use Rattle.rdb_outside.specs.Runs.{no_calls, then_reads}
-use Rattle.stable_lines.specs.Slots.{ruj_file}
-use Rattle.line_moves.proofs.Runs.{still_tells}
+use Rattle.line_opening.specs.stable_lines.Slots.{ruj_file}
+use Rattle.line_opening.proofs.of_line_moves.Runs.{still_tells}
 use Rattle.line_opening.proofs.Counted.{count_same}
 use Rattle.database_opening.proofs.Counts.{counted_more, all_counted}
 use Rattle.database_opening.proofs.reading.count_all.Goals as goal

@@ -1,8 +1,8 @@
 use Rattle.std.proofs.Common.{ℕ, Option, subst}
 use Rattle.rdb_outside.specs.Disk.{Pending}
-use Rattle.stable_lines.specs.Progress.{Open}
-use Rattle.stable_lines.specs.Facts.{Facts}
-use Rattle.stable_lines.specs.Opening.{found}
+use Rattle.line_opening.specs.stable_lines.Progress.{Open}
+use Rattle.line_opening.specs.stable_lines.Facts.{Facts}
+use Rattle.line_opening.specs.stable_lines.Opening.{found}
 use Rattle.database_opening.proofs.start.start_of.Goals as goal
 
 pub returns-clause-begins : goal.returns-clause-begins

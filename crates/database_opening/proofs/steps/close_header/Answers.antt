@@ -1,7 +1,7 @@
 use Rattle.std.proofs.Common.{rules, ◌≤◌, ◌<◌, arith}
-use Rattle.stable_lines.specs.Slots.{ruj_file}
-use Rattle.stable_lines.specs.Opening.{found}
-use Rattle.line_moves.proofs.Runs.{pends}
+use Rattle.line_opening.specs.stable_lines.Slots.{ruj_file}
+use Rattle.line_opening.specs.stable_lines.Opening.{found}
+use Rattle.line_opening.proofs.of_line_moves.Runs.{pends}
 use Rattle.line_opening.proofs.Standing.{written_stands}
 use Rattle.database_opening.proofs.Undone.{leaves_kept}
 use Rattle.database_opening.proofs.Closed.{some_number, closed_on, all_closed}

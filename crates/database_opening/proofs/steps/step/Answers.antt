@@ -1,6 +1,6 @@
 use Rattle.std.proofs.Common.{◌<◌, IsTrue, refl, sym, subst, arith}
 use Rattle.rdb_outside.specs.Disk.{IsStable}
-use Rattle.stable_lines.specs.Opening.{found}
+use Rattle.line_opening.specs.stable_lines.Opening.{found}
 use Rattle.line_opening.proofs.Counted.{if_ok}
 use Rattle.line_opening.proofs.Standing.{stands_now, read_stands}
 use Rattle.database_opening.specs.Stages.{IsStage, OpeningFacts, steps_left}
@@ -8,7 +8,7 @@ use Rattle.database_opening.specs.declared.stages.OpeningStage.{OpeningStage}
 use Rattle.database_opening.proofs.Counts.{both_ok}
 use Rattle.database_opening.proofs.Undone.{leaves_kept}
 use Rattle.database_opening.proofs.Closed.{restored, ended}
-use Rattle.line_moves.proofs.PageClasses.{classes_read}
+use Rattle.line_opening.proofs.of_line_moves.PageClasses.{classes_read}
 use Rattle.database_opening.proofs.Pages.{untouched_read}
 use Rattle.database_opening.proofs.Others.{file_unused, file_read}
 use Rattle.database_opening.proofs.steps.step.Goals as goal

@@ -1,5 +1,5 @@
 use Rattle.std.proofs.Common.{rules, ◌≡◌, ◌≢◌, ◌≤◌, ◌<◌, ◌+◌, ◌-◌, ◌∙◌, ℕ, get_or, ⊎_elim, ◌⊎◌, sym, refl, ap, subst, arith}
-use Rattle.stable_lines.specs.Opening.{found}
+use Rattle.line_opening.specs.stable_lines.Opening.{found}
 use Rattle.line_opening.proofs.Standing.{stands_now}
 use Rattle.database_opening.specs.Stages.{OpeningFacts}
 use Rattle.database_opening.specs.declared.stages.OpeningStage.{OpeningStage}

@@ -1,8 +1,8 @@
 use Rattle.std.proofs.Common.{rules, ◌≡◌, ◌∙◌, sym, subst, arith}
 use Rattle.root_file.specs.declared.Root.{Root}
 use Rattle.root_file.specs.Root.{IsRoot}
-use Rattle.new_database.specs.Maker.{root_file}
-use Rattle.line_moves.proofs.Runs.{still_tells}
+use Rattle.line_opening.specs.new_database.Maker.{root_file}
+use Rattle.line_opening.proofs.of_line_moves.Runs.{still_tells}
 use Rattle.database_opening.specs.Stages.{OpeningFacts}
 use Rattle.database_opening.specs.declared.stages.OpeningStage.{OpeningStage}
 use Rattle.database_opening.specs.declared.stages.OpeningStage.TheVariants.{Opened}

@@ -2,9 +2,9 @@ use Rattle.std.proofs.Common.{◌≡◌, ◌≤◌, ℕ, IsTrue}
 use Rattle.rdb_types.specs.declared.file.FileId.{FileId}
 use Rattle.rdb_outside.specs.Disk.{Pending, LeavesOnly}
 use Rattle.line_view.specs.Knowledge.{Lines}
-use Rattle.stable_lines.specs.Journal.{Journal}
-use Rattle.stable_lines.specs.Kept.{Kept}
-use Rattle.line_moves.specs.Classes.{HaveTheirClasses, IsClassed}
+use Rattle.line_opening.specs.stable_lines.Journal.{Journal}
+use Rattle.line_opening.specs.stable_lines.Kept.{Kept}
+use Rattle.line_opening.specs.line_moves.Classes.{HaveTheirClasses, IsClassed}
 use Rattle.database_opening.specs.Others.{IsOther, KeepsFile}
 use Rattle.database_opening.specs.Untouched.{KeepsRootAndSpaces}
 use Rattle.database_opening.specs.Stages.{OpeningFacts, IsStage, steps_left}

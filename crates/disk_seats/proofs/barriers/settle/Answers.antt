@@ -1,4 +1,4 @@
-use Rattle.line_moves.proofs.Runs.{on_ok}
+use Rattle.line_opening.proofs.of_line_moves.Runs.{on_ok}
 use Rattle.disk_seats.specs.Ledgers.{progress_of}
 use Rattle.disk_seats.proofs.Settled.{read_behind, gained_behind}
 use Rattle.disk_seats.proofs.barriers.settle.Goals as goal

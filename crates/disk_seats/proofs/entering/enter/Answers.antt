@@ -1,6 +1,6 @@
 use Rattle.std.proofs.Common.{◌≤◌, sym, subst}
-use Rattle.line_moves.proofs.Runs.{on_ok}
-use Rattle.line_moves.proofs.PageClasses.{classes_beside_space_of, owners_beside_space}
+use Rattle.line_opening.proofs.of_line_moves.Runs.{on_ok}
+use Rattle.line_opening.proofs.of_line_moves.PageClasses.{classes_beside_space_of, owners_beside_space}
 use Rattle.disk_seats.specs.Ledgers.{progress_of}
 use Rattle.disk_seats.proofs.Progresses.{same_limits}
 use Rattle.disk_seats.proofs.Entered.{space_behind, owned_more}

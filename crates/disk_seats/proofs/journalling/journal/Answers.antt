@@ -1,5 +1,5 @@
 use Rattle.std.proofs.Common.{arith}
-use Rattle.line_moves.proofs.Runs.{on_ok}
+use Rattle.line_opening.proofs.of_line_moves.Runs.{on_ok}
 use Rattle.disk_seats.specs.Ledgers.{progress_of, changing}
 use Rattle.disk_seats.proofs.Progresses.{seat_now}
 use Rattle.disk_seats.proofs.OwnSeat.{stands_so, seat_of, may_change}

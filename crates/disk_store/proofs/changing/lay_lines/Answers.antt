@@ -2,7 +2,7 @@ use Rattle.std.proofs.Common.{◌≡◌, ◌≤◌, ◌<◌, ◌+◌, ℕ, List,
 use Rattle.std.proofs.lemmas.Grind.{common_steps}
 use Rattle.line_store.specs.declared.answers.ChangeStop.{ChangeStop}
 use Rattle.line_store.specs.Seats.{lines_added}
-use Rattle.version_writing.specs.Slots.{SlotTable, IsFullOf}
+use Rattle.reader_lines.specs.version_writing.Slots.{SlotTable, IsFullOf}
 use Rattle.member_memory.specs.Memory.{writes_in}
 use Rattle.member_memory.specs.declared.changes.AddStop.{AddStop}
 use Rattle.member_memory.specs.declared.changes.AddStop.TheVariants.{Full, NoMemory}

@@ -1,6 +1,6 @@
 use Rattle.std.proofs.Common.{inl, inr, refl}
-use Rattle.version_writing.specs.Slots.{GivesBack}
-use Rattle.version_writing.specs.Tables.{table_of}
+use Rattle.reader_lines.specs.version_writing.Slots.{GivesBack}
+use Rattle.reader_lines.specs.version_writing.Tables.{table_of}
 use Rattle.disk_store.proofs.SlotsSound.{each-file}
 use Rattle.disk_store.proofs.giving.give_pushed.Goals as goal
 

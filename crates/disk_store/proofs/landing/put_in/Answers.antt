@@ -1,5 +1,5 @@
 use Rattle.std.proofs.Common.{subst}
-use Rattle.page_table.specs.Pages.{PutsLine}
+use Rattle.member_rooms.specs.page_table.Pages.{PutsLine}
 use Rattle.disk_store.proofs.LinesPut.{puts-catalog, puts-relations, puts-indexes}
 use Rattle.disk_store.proofs.landing.put_in.Goals as goal
 

@@ -2,7 +2,7 @@ use Rattle.std.proofs.Common.{[], refl, sym, ap, subst, ◌∙◌}
 use Rattle.line_store.specs.Seats.{committing, IsPrepared, committing_by}
 use Rattle.line_store.specs.Calls.{Moves}
 use Rattle.line_store.specs.Sights.{Does, BeginsCommit}
-use Rattle.member_steps.specs.declared.committing.CommitTurn.TheVariants.{Entering}
+use Rattle.member_rooms.specs.member_steps.declared.committing.CommitTurn.TheVariants.{Entering}
 use Rattle.member_memory.specs.Memory.{writes_in}
 use Rattle.disk_store.specs.declared.member.Member.{Member}
 use Rattle.disk_store.specs.declared.member.MemberStage.TheVariants as stage

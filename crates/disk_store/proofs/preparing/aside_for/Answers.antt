@@ -2,7 +2,7 @@ use Rattle.std.proofs.Common.{◌≡◌, ◌+◌, ◌⊎◌, inl, inr, [], List,
 use Rattle.line_view.specs.declared.writes.Write.{Write}
 use Rattle.line_store.specs.Seats.{set_aside, group_of}
 use Rattle.member_memory.specs.Memory.{AreKeysOf, writes_in}
-use Rattle.member_steps.specs.declared.committing.CommitTurn.{CommitTurn}
+use Rattle.member_rooms.specs.member_steps.declared.committing.CommitTurn.{CommitTurn}
 use Rattle.disk_store.specs.declared.member.MemberStage.{MemberStage}
 use Rattle.disk_store.specs.declared.member.MemberStage.TheVariants as stage
 use Rattle.disk_store.specs.Seats.{seat_with}

@@ -3,7 +3,7 @@ use Rattle.std.specs.FinMap.Entries.{is_sorted}
 use Rattle.rdb_types.specs.Order.{dbkey_order}
 use Rattle.line_store.specs.Seats.{IsWriting}
 use Rattle.line_store.specs.Rooms.{IsFull}
-use Rattle.page_table.specs.Pages.{Pages}
+use Rattle.member_rooms.specs.page_table.Pages.{Pages}
 use Rattle.member_memory.specs.Memory.{Memory}
 use Rattle.member_rooms.specs.Rooms.{IsRoomBeside, HasNoPage}
 use Rattle.disk_store.specs.declared.member.Member.{Member}

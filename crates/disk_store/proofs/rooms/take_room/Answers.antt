@@ -3,8 +3,8 @@ use Rattle.rdb_types.specs.declared.keys.Limits.{Limits}
 use Rattle.line_store.specs.Shelves.{Shelf}
 use Rattle.line_store.specs.Rooms.{Takes}
 use Rattle.line_store.specs.Sights.{Does}
-use Rattle.page_table.specs.Pages.{Pages}
-use Rattle.page_table.specs.Scans.{IsNew}
+use Rattle.member_rooms.specs.page_table.Pages.{Pages}
+use Rattle.member_rooms.specs.page_table.Scans.{IsNew}
 use Rattle.member_rooms.specs.Classes.{IsClassOf, HasNoOwned}
 use Rattle.disk_store.specs.Memory.{StoreMemory}
 use Rattle.disk_store.specs.Seats.{stand_at}

@@ -1,6 +1,6 @@
 use Rattle.std.proofs.Common.{◌∙◌, sym, ap, subst, arith}
-use Rattle.committed_tables.specs.Tables.{WereUsed}
-use Rattle.page_table.specs.Pages.{Pages}
+use Rattle.member_rooms.specs.committed_tables.Tables.{WereUsed}
+use Rattle.member_rooms.specs.page_table.Pages.{Pages}
 use Rattle.reader_lines.specs.Readers.{IsReader}
 use Rattle.disk_store.specs.Memory.{StoreMemory}
 use Rattle.disk_store.proofs.Tabled.{file-of}

@@ -1,7 +1,7 @@
 use Rattle.std.proofs.Common.{◌∙◌, List, sym, ap, subst, arith}
-use Rattle.committed_lines.specs.Seen.{AreSeen}
-use Rattle.committed_tables.specs.Tables.{WereUsed}
-use Rattle.page_table.specs.Pages.{Pages}
+use Rattle.reader_lines.specs.committed_lines.Seen.{AreSeen}
+use Rattle.member_rooms.specs.committed_tables.Tables.{WereUsed}
+use Rattle.member_rooms.specs.page_table.Pages.{Pages}
 use Rattle.disk_store.specs.declared.member.Member.{Member}
 use Rattle.disk_store.specs.BeforeImages.{seen_of}
 use Rattle.disk_store.specs.Memory.{StoreMemory}

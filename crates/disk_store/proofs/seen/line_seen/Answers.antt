@@ -1,7 +1,7 @@
 use Rattle.std.proofs.Common.{◌∙◌, List, sym, ap, subst}
 use Rattle.line_view.specs.Knowledge.{Lines, line_in}
 use Rattle.line_store.specs.Seats.{IsAtRest}
-use Rattle.committed_lines.specs.Seen.{AreSeen}
+use Rattle.reader_lines.specs.committed_lines.Seen.{AreSeen}
 use Rattle.reader_lines.specs.Readers.{IsReader}
 use Rattle.disk_store.specs.declared.member.Member.{Member}
 use Rattle.disk_store.specs.BeforeImages.{seen_of}

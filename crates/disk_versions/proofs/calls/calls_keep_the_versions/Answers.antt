@@ -1,5 +1,5 @@
 use Rattle.std.proofs.Common.{inl}
-use Rattle.line_moves.proofs.OnlyPut.{keeps_lines, lines_beside}
+use Rattle.line_opening.proofs.of_line_moves.OnlyPut.{keeps_lines, lines_beside}
 use Rattle.disk_versions.proofs.Moves.{versions_move, kept_by_reads, kept_aside, kept_in_slot, lines_in_slot, put_moves, back_moves}
 use Rattle.disk_versions.proofs.calls.calls_keep_the_versions.Goals as goal
 

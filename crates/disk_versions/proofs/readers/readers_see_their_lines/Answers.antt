@@ -1,6 +1,6 @@
 use Rattle.line_versions.specs.Files.{entries_in}
 use Rattle.line_versions.proofs.Steps.{reader_is_right}
-use Rattle.stable_lines.specs.Slots.{line_at}
+use Rattle.line_opening.specs.stable_lines.Slots.{line_at}
 use Rattle.disk_versions.proofs.readers.readers_see_their_lines.Goals as goal
 
 pub returns-clause-sees : goal.returns-clause-sees

@@ -1,7 +1,7 @@
 use Rattle.std.proofs.Common.{arith}
 use Rattle.rdb_outside.specs.Disk.{Pending}
-use Rattle.stable_lines.specs.Slots.{file_of, slot_of}
-use Rattle.line_moves.proofs.Runs.{pends}
+use Rattle.line_opening.specs.stable_lines.Slots.{file_of, slot_of}
+use Rattle.line_opening.proofs.of_line_moves.Runs.{pends}
 use Rattle.disk_versions.proofs.Beginnings.{begins, secures}
 use Rattle.disk_versions.proofs.Ends.{ends, nowhere, in_group, as_it_was, now_shown, lands, on_top}
 use Rattle.disk_versions.proofs.Flights.{takes_off, falls}

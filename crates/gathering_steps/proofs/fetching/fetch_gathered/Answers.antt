@@ -1,12 +1,12 @@
-use Rattle.session_states.specs.declared.stage.Stage.{Stage}
-use Rattle.session_states.specs.declared.stage.Life.TheVariants.{Alive}
+use Rattle.stage_steps.specs.session_states.declared.stage.Stage.{Stage}
+use Rattle.stage_steps.specs.session_states.declared.stage.Life.TheVariants.{Alive}
 use Rattle.std.proofs.Common.{refl, ap, ◌∙◌, [], Ok, arith}
-use Rattle.session_states.specs.declared.stage.Gather.TheVariants.{Reading}
-use Rattle.session_states.specs.declared.stage.Stage.TheVariants.{Gathering}
-use Rattle.session_states.specs.States.{session}
-use Rattle.session_states.proofs.InTurn.{steps-on}
-use Rattle.session_states.proofs.Resting.{rests-by}
-use Rattle.session_measure.proofs.Nearer.{nearer-in-round, nearer-by-steps}
+use Rattle.stage_steps.specs.session_states.declared.stage.Gather.TheVariants.{Reading}
+use Rattle.stage_steps.specs.session_states.declared.stage.Stage.TheVariants.{Gathering}
+use Rattle.stage_steps.specs.session_states.States.{session}
+use Rattle.stage_steps.proofs.of_session_states.InTurn.{steps-on}
+use Rattle.stage_steps.proofs.of_session_states.Resting.{rests-by}
+use Rattle.stage_steps.proofs.of_session_measure.Nearer.{nearer-in-round, nearer-by-steps}
 use Rattle.stage_steps.specs.Turns.{at_stage, shared}
 use Rattle.stage_steps.proofs.Goes.{goes, goes-still, goes-behind, has-failed, comes-as}
 use Rattle.stage_steps.proofs.Nearer.{near-in}

@@ -1,9 +1,9 @@
 use Rattle.std.proofs.Common.{◌∙◌, ap, sym, subst, refl, arith}
-use Rattle.session_states.specs.declared.stage.Gather.TheVariants.{Locking}
-use Rattle.session_states.specs.declared.stage.Stage.{Stage}
-use Rattle.session_states.specs.declared.stage.Phase.{Phase}
-use Rattle.session_states.proofs.Gathering.{gathers-on}
-use Rattle.session_measure.proofs.Nearer.{nearer-in-round}
+use Rattle.stage_steps.specs.session_states.declared.stage.Gather.TheVariants.{Locking}
+use Rattle.stage_steps.specs.session_states.declared.stage.Stage.{Stage}
+use Rattle.stage_steps.specs.session_states.declared.stage.Phase.{Phase}
+use Rattle.stage_steps.proofs.of_session_states.Gathering.{gathers-on}
+use Rattle.stage_steps.proofs.of_session_measure.Nearer.{nearer-in-round}
 use Rattle.stage_steps.specs.Turns.{at_stage}
 use Rattle.gathering_steps.specs.Rounds.{GathersFrom}
 use Rattle.gathering_steps.proofs.Seats.{gathering-seat}

@@ -1,5 +1,5 @@
 use Rattle.std.proofs.Common.{◌∙◌, ap}
-use Rattle.slot_fields.specs.Fields.{size}
+use Rattle.record_format.specs.slot_fields.Fields.{size}
 use Rattle.record_format.specs.Values.{values_fields}
 use Rattle.index_node.proofs.Entries.{size_without_child, size_with_child}
 use Rattle.index_node.proofs.entry.entry_size.Goals as goal

@@ -1,5 +1,5 @@
 use Rattle.std.proofs.Common.{◌+◌, ◌∙◌, [], ◌∷◌, ap, subst, arith}
-use Rattle.slot_fields.specs.Fields.{size, number}
+use Rattle.record_format.specs.slot_fields.Fields.{size, number}
 use Rattle.record_format.specs.Dbkeys.{dbkey_fields}
 use Rattle.record_format.specs.Values.{values_fields}
 use Rattle.record_format.proofs.Laying.{HasLaid}

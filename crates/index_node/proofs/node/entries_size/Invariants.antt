@@ -1,6 +1,6 @@
 use Rattle.std.proofs.Common.{◌≡◌, ◌≤◌, take}
 use Rattle.std.specs.List.{flat_map}
-use Rattle.slot_fields.specs.Fields.{size}
+use Rattle.record_format.specs.slot_fields.Fields.{size}
 use Rattle.index_node.specs.Node.{entry_fields}
 use Rattle.index_node.proofs.node.entries_size.Given as goal
 

@@ -1,7 +1,7 @@
 use Rattle.std.proofs.Common.{ℕ, ◌<◌, ◌^◌, refl, ap, subst, arith, length}
 use Rattle.std.specs.List.{flat_map}
-use Rattle.slot_fields.specs.Fields.{size, Fit}
-use Rattle.slot_fields.proofs.Laws.{whole_ends}
+use Rattle.record_format.specs.slot_fields.Fields.{size, Fit}
+use Rattle.record_format.proofs.of_slot_fields.Laws.{whole_ends}
 use Rattle.record_format.proofs.Images.{laid_whole}
 use Rattle.index_node.specs.Node.{node_fields, entry_fields}
 use Rattle.index_node.proofs.Nodes.{no_more_than_bytes, size_known}

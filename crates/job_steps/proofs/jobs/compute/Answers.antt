@@ -1,10 +1,10 @@
 use Rattle.std.proofs.Common.{refl, ◌∙◌, subst}
-use Rattle.session_states.specs.declared.stage.Work.TheVariants.{Out}
-use Rattle.session_states.specs.declared.stage.Stage.TheVariants.{Working}
+use Rattle.gathering_steps.specs.session_states.declared.stage.Work.TheVariants.{Out}
+use Rattle.gathering_steps.specs.session_states.declared.stage.Stage.TheVariants.{Working}
 use Rattle.session_jobs.specs.declared.jobs.Job.{Job}
-use Rattle.stage_steps.specs.Turns.{at_stage}
-use Rattle.stage_steps.specs.Scenes.{ComesIn, scene}
-use Rattle.stage_steps.proofs.Resting.{as-before}
+use Rattle.gathering_steps.specs.stage_steps.Turns.{at_stage}
+use Rattle.gathering_steps.specs.stage_steps.Scenes.{ComesIn, scene}
+use Rattle.gathering_steps.proofs.of_stage_steps.Resting.{as-before}
 use Rattle.job_steps.proofs.jobs.compute.Goals as goal
 
 pub returns-in_default-clause-comes : goal.returns-in_default-clause-comes

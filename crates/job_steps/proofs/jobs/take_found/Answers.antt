@@ -5,16 +5,16 @@ use Rattle.line_view.specs.Held.{knows}
 use Rattle.line_store.specs.Shelves.{Shelf}
 use Rattle.session_jobs.specs.Jobs.{IsFound}
 use Rattle.session_jobs.specs.declared.jobs.Found.{Found}
-use Rattle.session_states.specs.declared.stage.Life.TheVariants.{Alive}
-use Rattle.session_states.specs.declared.stage.Work.TheVariants.{Out}
-use Rattle.session_states.specs.declared.stage.Stage.TheVariants.{Working}
-use Rattle.session_states.proofs.Working.{never-bad}
-use Rattle.session_states.proofs.Resting.{rests-by}
-use Rattle.session_measure.proofs.Nearer.{nearer-in-round}
-use Rattle.stage_steps.specs.Turns.{shared}
-use Rattle.stage_steps.proofs.Goes.{goes-still, comes-as}
-use Rattle.stage_steps.proofs.Resting.{as-before}
-use Rattle.stage_steps.proofs.Seated.{rests-at}
+use Rattle.gathering_steps.specs.session_states.declared.stage.Life.TheVariants.{Alive}
+use Rattle.gathering_steps.specs.session_states.declared.stage.Work.TheVariants.{Out}
+use Rattle.gathering_steps.specs.session_states.declared.stage.Stage.TheVariants.{Working}
+use Rattle.gathering_steps.proofs.of_session_states.Working.{never-bad}
+use Rattle.gathering_steps.proofs.of_session_states.Resting.{rests-by}
+use Rattle.gathering_steps.proofs.of_session_measure.Nearer.{nearer-in-round}
+use Rattle.gathering_steps.specs.stage_steps.Turns.{shared}
+use Rattle.gathering_steps.proofs.of_stage_steps.Goes.{goes-still, comes-as}
+use Rattle.gathering_steps.proofs.of_stage_steps.Resting.{as-before}
+use Rattle.gathering_steps.proofs.of_stage_steps.Seated.{rests-at}
 use Rattle.job_steps.proofs.jobs.take_found.Goals as goal
 
 pub returns-in-Missing-clause-comes : goal.returns-in-Missing-clause-comes

@@ -1,15 +1,15 @@
 use Rattle.std.proofs.Common.{rules, ◌≡◌, refl, ◌∙◌, ap, Err, arith}
-use Rattle.session_states.specs.declared.stage.Life.TheVariants.{Alive}
-use Rattle.session_states.specs.declared.stage.Work.TheVariants.{Out}
-use Rattle.session_states.specs.declared.stage.Stage.TheVariants.{Working, Reserving}
-use Rattle.session_states.proofs.Working.{returns-done}
-use Rattle.session_states.proofs.Resting.{rests-by}
-use Rattle.session_measure.proofs.Nearer.{nearer-by-rank, nearer-in-round}
-use Rattle.stage_steps.specs.Scenes.{scene}
-use Rattle.stage_steps.specs.Turns.{at_stage, shared}
-use Rattle.stage_steps.proofs.Goes.{goes-still, comes-as}
-use Rattle.stage_steps.proofs.Resting.{as-before}
-use Rattle.stage_steps.proofs.Seated.{rests-at}
+use Rattle.gathering_steps.specs.session_states.declared.stage.Life.TheVariants.{Alive}
+use Rattle.gathering_steps.specs.session_states.declared.stage.Work.TheVariants.{Out}
+use Rattle.gathering_steps.specs.session_states.declared.stage.Stage.TheVariants.{Working, Reserving}
+use Rattle.gathering_steps.proofs.of_session_states.Working.{returns-done}
+use Rattle.gathering_steps.proofs.of_session_states.Resting.{rests-by}
+use Rattle.gathering_steps.proofs.of_session_measure.Nearer.{nearer-by-rank, nearer-in-round}
+use Rattle.gathering_steps.specs.stage_steps.Scenes.{scene}
+use Rattle.gathering_steps.specs.stage_steps.Turns.{at_stage, shared}
+use Rattle.gathering_steps.proofs.of_stage_steps.Goes.{goes-still, comes-as}
+use Rattle.gathering_steps.proofs.of_stage_steps.Resting.{as-before}
+use Rattle.gathering_steps.proofs.of_stage_steps.Seated.{rests-at}
 use Rattle.job_steps.proofs.Kept.{reserved-in, reserves-kept, lacking-found}
 use Rattle.job_steps.proofs.reserving.keep.Goals as goal
 

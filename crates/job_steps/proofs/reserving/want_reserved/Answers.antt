@@ -1,10 +1,10 @@
 use Rattle.std.proofs.Common.{refl, ◌∙◌, sym, arith}
-use Rattle.session_states.specs.declared.stage.Life.TheVariants.{Alive}
-use Rattle.session_states.proofs.Reserving.{reserved-on}
-use Rattle.session_measure.proofs.Nearer.{nearer-by-rank}
-use Rattle.stage_steps.specs.Turns.{shared}
-use Rattle.stage_steps.proofs.Goes.{goes-still, comes-as}
-use Rattle.stage_steps.proofs.Seated.{rests-at, unwanted}
+use Rattle.gathering_steps.specs.session_states.declared.stage.Life.TheVariants.{Alive}
+use Rattle.gathering_steps.proofs.of_session_states.Reserving.{reserved-on}
+use Rattle.gathering_steps.proofs.of_session_measure.Nearer.{nearer-by-rank}
+use Rattle.gathering_steps.specs.stage_steps.Turns.{shared}
+use Rattle.gathering_steps.proofs.of_stage_steps.Goes.{goes-still, comes-as}
+use Rattle.gathering_steps.proofs.of_stage_steps.Seated.{rests-at, unwanted}
 use Rattle.job_steps.proofs.reserving.want_reserved.Goals as goal
 
 pub returns-in_default : goal.returns-in_default

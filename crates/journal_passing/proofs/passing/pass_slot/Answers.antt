@@ -1,6 +1,6 @@
 use Rattle.std.proofs.Common.{◌∙◌, ap, None, Some, Option}
-use Rattle.aij_journal.specs.declared.part.AijPart.{AijPart}
-use Rattle.journal_scan.proofs.Stands.{only_stands}
+use Rattle.journal_reading.specs.aij_journal.declared.part.AijPart.{AijPart}
+use Rattle.journal_reading.proofs.of_journal_scan.Stands.{only_stands}
 use Rattle.journal_passing.specs.Passing.{continued, passed_by}
 use Rattle.journal_passing.specs.declared.passing.Passing.{Passing}
 use Rattle.journal_passing.proofs.passing.pass_slot.Goals as goal

@@ -1,5 +1,5 @@
 use Rattle.std.proofs.Common.{rules, ℕ, ◌≡◌, ◌+◌, ◌≤◌, ◌++◌, ◌∷◌, [], List, Option, Some, MatchOption, IsTrue, sym, ◌∙◌, ap, subst, arith}
-use Rattle.rdb_types.specs.declared.file.FileId.{FileId}
+use Rattle.rdb_outside.specs.rdb_types.declared.file.FileId.{FileId}
 use Rattle.rdb_outside.specs.Disk.{View, OnlyReads}
 use Rattle.rdb_outside.specs.Runs.{one_call}
 use Rattle.journal_scan.specs.declared.group.Group.{Group}

@@ -1,5 +1,5 @@
 use Rattle.std.proofs.Common.{sym, subst}
-use Rattle.aij_journal.specs.Header.{IsHeader}
+use Rattle.journal_scan.specs.aij_journal.Header.{IsHeader}
 use Rattle.journal_reading.proofs.reading.first_number.Goals as goal
 
 pub returns-in-None-clause-bad_header : goal.returns-in-None-clause-bad_header

@@ -1,7 +1,7 @@
 use Rattle.std.proofs.Common.{◌≡◌, ◌∙◌, length, ap, subst}
-use Rattle.line_moves.specs.Lines.{ArePut}
-use Rattle.line_seat.specs.declared.commit.CommitStage.{CommitStage}
-use Rattle.line_seat.specs.Stages.{CommitFacts}
+use Rattle.disk_seats.specs.line_moves.Lines.{ArePut}
+use Rattle.disk_seats.specs.line_seat.declared.commit.CommitStage.{CommitStage}
+use Rattle.disk_seats.specs.line_seat.Stages.{CommitFacts}
 use Rattle.disk_seats.specs.Ledgers.{broken, undoing, gained, Commit, again, flies, commit_at, set_standing, gone_on, held_up, given_up, marked_at}
 use Rattle.ledger_versions.proofs.Restanding.{restands, keeps_all, keeps_gained, keeps_others, again_flies, some_commit, no_commit}
 use Rattle.ledger_versions.proofs.members.standings_keep_readers.Goals as goal

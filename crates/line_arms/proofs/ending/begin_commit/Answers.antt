@@ -1,4 +1,4 @@
-use Rattle.session_stands.proofs.Seating.{alone}
+use Rattle.job_steps.proofs.of_session_stands.Seating.{alone}
 use Rattle.line_arms.proofs.Arms.{quiet-comes}
 use Rattle.line_arms.proofs.ending.begin_commit.Goals as goal
 

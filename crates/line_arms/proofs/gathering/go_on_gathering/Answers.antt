@@ -1,7 +1,7 @@
 use Rattle.std.proofs.Common.{sym, subst}
 use Rattle.rdo_ast.specs.Views.{uttered_of}
-use Rattle.session_states.specs.Locks.{lock_of}
-use Rattle.session_states.specs.declared.stage.Stage.{Stage}
+use Rattle.job_steps.specs.session_states.Locks.{lock_of}
+use Rattle.job_steps.specs.session_states.declared.stage.Stage.{Stage}
 use Rattle.line_arms.specs.Going.{MayBeAsked}
 use Rattle.line_arms.proofs.Asked.{gather-asked}
 use Rattle.line_arms.proofs.gathering.go_on_gathering.Goals as goal

@@ -1,6 +1,6 @@
 use Rattle.std.proofs.Common.{refl}
-use Rattle.session_states.specs.declared.stage.ReaderStage.TheVariants.{Working}
-use Rattle.stage_steps.specs.Scenes.{scene}
+use Rattle.job_steps.specs.session_states.declared.stage.ReaderStage.TheVariants.{Working}
+use Rattle.job_steps.specs.stage_steps.Scenes.{scene}
 use Rattle.line_arms.proofs.Arms.{quiet-comes, passes}
 use Rattle.line_arms.proofs.reading.look.Goals as goal
 

@@ -1,5 +1,5 @@
 use Rattle.std.proofs.Common.{◌++◌}
-use Rattle.stage_steps.specs.Happenings.{handed_back}
+use Rattle.job_steps.specs.stage_steps.Happenings.{handed_back}
 use Rattle.line_arms.proofs.Arms.{takes, takes-up, ends}
 use Rattle.line_arms.proofs.reading.read_next.Goals as goal
 

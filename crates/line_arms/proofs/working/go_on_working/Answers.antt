@@ -1,8 +1,8 @@
 use Rattle.std.proofs.Common.{rules, ◌≡◌}
 use Rattle.line_view.specs.declared.need.Need.TheVariants.{Room}
-use Rattle.session_states.specs.declared.stage.Work.TheVariants.{Lacking}
+use Rattle.job_steps.specs.session_states.declared.stage.Work.TheVariants.{Lacking}
 use Rattle.rdo_ast.specs.Views.{uttered_of}
-use Rattle.stage_steps.specs.Scenes.{scene}
+use Rattle.job_steps.specs.stage_steps.Scenes.{scene}
 use Rattle.line_arms.proofs.Arms.{quiet-comes, passes}
 use Rattle.line_arms.proofs.Asked.{work-asked}
 use Rattle.line_arms.proofs.working.go_on_working.Goals as goal

@@ -1,10 +1,10 @@
 use Rattle.std.proofs.Common.{sym, subst}
-use Rattle.session_states.specs.declared.stage.Phase.{Phase}
+use Rattle.job_steps.specs.session_states.declared.stage.Phase.{Phase}
 use Rattle.line_view.specs.declared.need.Need.TheVariants as need
-use Rattle.session_states.specs.declared.stage.Work.TheVariants.{Lacking, Lodging}
-use Rattle.session_states.specs.declared.stage.Stage.TheVariants.{Working}
-use Rattle.stage_steps.specs.Scenes.{PassesOn}
-use Rattle.stage_steps.specs.Turns.{at_stage}
+use Rattle.job_steps.specs.session_states.declared.stage.Work.TheVariants.{Lacking, Lodging}
+use Rattle.job_steps.specs.session_states.declared.stage.Stage.TheVariants.{Working}
+use Rattle.job_steps.specs.stage_steps.Scenes.{PassesOn}
+use Rattle.job_steps.specs.stage_steps.Turns.{at_stage}
 use Rattle.line_arms.proofs.Rooms.{lacks-again, lodges-again}
 use Rattle.line_arms.proofs.working.hand_in.Goals as goal
 

@@ -1,8 +1,8 @@
 use Rattle.std.proofs.Common.{refl}
-use Rattle.session_states.specs.declared.stage.Work.TheVariants.{Due}
-use Rattle.session_states.specs.declared.stage.Stage.TheVariants.{Working}
-use Rattle.stage_steps.specs.Scenes.{scene}
-use Rattle.stage_steps.proofs.Resting.{as-before}
+use Rattle.job_steps.specs.session_states.declared.stage.Work.TheVariants.{Due}
+use Rattle.job_steps.specs.session_states.declared.stage.Stage.TheVariants.{Working}
+use Rattle.job_steps.specs.stage_steps.Scenes.{scene}
+use Rattle.job_steps.proofs.of_stage_steps.Resting.{as-before}
 use Rattle.line_arms.proofs.Arms.{quiet-comes, passes}
 use Rattle.line_arms.proofs.working.hand_out_once.Goals as goal
 

@@ -1,5 +1,5 @@
 use Rattle.std.proofs.Common.{◌<◌, ◌≤◌, subst}
-use Rattle.session_states.specs.declared.stage.Laying.TheVariants.{Claiming}
+use Rattle.job_steps.specs.session_states.declared.stage.Laying.TheVariants.{Claiming}
 use Rattle.line_arms.proofs.Asked.{laying-asked, within-asked, past-asked}
 use Rattle.line_arms.proofs.writing.go_on_saying.Goals as goal
 

@@ -1,5 +1,5 @@
 use Rattle.std.proofs.Common.{refl}
-use Rattle.stage_steps.specs.declared.happening.Happening.TheVariants.{Quiet}
+use Rattle.job_steps.specs.stage_steps.declared.happening.Happening.TheVariants.{Quiet}
 use Rattle.line_arms.proofs.Arms.{quiet-goes, takes, ends}
 use Rattle.line_arms.proofs.writing.take_next.Goals as goal
 

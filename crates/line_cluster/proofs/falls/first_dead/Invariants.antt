@@ -1,5 +1,5 @@
 use Rattle.std.proofs.Common.{◌≡◌, drop}
-use Rattle.session_stands.specs.Sessions.{dead_in}
+use Rattle.line_account.specs.session_stands.Sessions.{dead_in}
 use Rattle.line_cluster.proofs.falls.first_dead.Given as goal
 
 abbrev pub invariant-loop-at : goal.invariant-loop-at

@@ -1,4 +1,4 @@
-use Rattle.lent_members.proofs.line_arms.Arms.{goes-on}
+use Rattle.lent_members.proofs.of_line_arms.Arms.{goes-on}
 use Rattle.line_cluster.proofs.going.go_on_from.Goals as goal
 
 pub returns-in-Back-clause-goes : goal.returns-in-Back-clause-goes

@@ -1,7 +1,7 @@
 use Rattle.std.proofs.Common.{◌∙◌, inl, inr, ⊎_elim, sym, subst, refl}
 use Rattle.rdb_types.specs.declared.keys.Line.{Line}
-use Rattle.rdb_outside.specs.Disk.{Pending}
-use Rattle.ruj_journal.specs.Entry.{IsEntry}
+use Rattle.line_store.specs.rdb_outside.Disk.{Pending}
+use Rattle.stable_lines.specs.ruj_journal.Entry.{IsEntry}
 use Rattle.stable_lines.specs.Slots.{ruj_file, entry_at, line_at}
 use Rattle.stable_lines.proofs.Headers.{entry_written}
 use Rattle.line_moves.proofs.Runs.{facts_read, writes_none, writes_one, more_behind, here_at, still_tells}

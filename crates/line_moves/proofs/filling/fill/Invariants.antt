@@ -1,5 +1,5 @@
 use Rattle.std.proofs.Common.{◌≡◌, ◌-◌, ◌<◌, ◌≤◌, length}
-use Rattle.rdb_page.specs.Whole.{IsPageOf}
+use Rattle.line_store.specs.rdb_page.Whole.{IsPageOf}
 use Rattle.line_moves.specs.Lines.{Fills}
 use Rattle.line_moves.proofs.filling.fill.Given as goal
 

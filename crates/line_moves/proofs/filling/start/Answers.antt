@@ -1,5 +1,5 @@
 use Rattle.std.proofs.Common.{inl, inr, refl}
-use Rattle.rdb_page.specs.Page.{IsUnused}
+use Rattle.line_store.specs.rdb_page.Page.{IsUnused}
 use Rattle.line_moves.proofs.filling.start.Goals as goal
 
 pub returns-then-is_zeros-clause-started : goal.returns-then-is_zeros-clause-started

@@ -1,6 +1,6 @@
 use Rattle.std.proofs.Common.{arith, inl, inr, ⊎_elim, ◌≡◌, ◌-◌, ◌≤◌, ◌∙◌, ℕ, List, sym, subst, slice_index_or}
-use Rattle.rdb_page.specs.Page.{IsUnused}
-use Rattle.rdb_outside.specs.Disk.{Pending, Puts}
+use Rattle.line_store.specs.rdb_page.Page.{IsUnused}
+use Rattle.line_store.specs.rdb_outside.Disk.{Pending, Puts}
 use Rattle.stable_lines.specs.Slots.{area_file}
 use Rattle.line_moves.specs.Lines.{IsStarted, PutsOnly}
 use Rattle.line_moves.proofs.Runs.{reads_once, facts_read, writes_none, writes_one, more_behind, read_pends, here_at, still_tells}

@@ -1,8 +1,8 @@
 use Rattle.std.specs.Prelude.{Some}
 use Rattle.std.proofs.Common.{◌∙◌, ap, refl, inl, inr, ⊎_elim}
 use Rattle.rdb_types.specs.declared.keys.Tsn.{Tsn}
-use Rattle.rdb_outside.specs.Disk.{Pending}
-use Rattle.rdb_outside.specs.Runs.{no_calls}
+use Rattle.line_store.specs.rdb_outside.Disk.{Pending}
+use Rattle.line_store.specs.rdb_outside.Runs.{no_calls}
 use Rattle.stable_lines.specs.Slots.{ruj_file, named}
 use Rattle.stable_lines.proofs.Headers.{header_named}
 use Rattle.stable_lines.proofs.Codecs.{named_as, header_is}

@@ -1,8 +1,8 @@
 use Rattle.std.proofs.Common.{◌∙◌, ap, refl}
-use Rattle.rdb_outside.specs.Disk.{Pending}
-use Rattle.rdb_outside.specs.Runs.{no_calls}
-use Rattle.journal_scan.specs.Standing.{what_stands}
-use Rattle.new_database.specs.Maker.{aij_file}
+use Rattle.line_store.specs.rdb_outside.Disk.{Pending}
+use Rattle.line_store.specs.rdb_outside.Runs.{no_calls}
+use Rattle.stable_lines.specs.journal_scan.Standing.{what_stands}
+use Rattle.stable_lines.specs.new_database.Maker.{aij_file}
 use Rattle.stable_lines.proofs.Codecs.{part_stands}
 use Rattle.line_moves.proofs.Runs.{writes_now, more_behind, here_at, on_ok}
 use Rattle.line_moves.proofs.Journalled.{journals}

@@ -1,8 +1,8 @@
 use Rattle.std.proofs.Common.{ℕ, List, inl, inr, ⊎_elim, refl, sym, subst}
-use Rattle.root_file.specs.Root.{IsRoot}
-use Rattle.rdb_outside.specs.Disk.{Pending}
-use Rattle.rdb_outside.specs.Runs.{no_calls}
-use Rattle.new_database.specs.Maker.{root_file}
+use Rattle.stable_lines.specs.root_file.Root.{IsRoot}
+use Rattle.line_store.specs.rdb_outside.Disk.{Pending}
+use Rattle.line_store.specs.rdb_outside.Runs.{no_calls}
+use Rattle.stable_lines.specs.new_database.Maker.{root_file}
 use Rattle.line_moves.proofs.Runs.{writes_now, more_behind, here_at, on_ok}
 use Rattle.line_moves.proofs.Journalled.{roots}
 use Rattle.line_moves.proofs.images.write_root.Goals as goal

@@ -1,4 +1,4 @@
-use Rattle.rdb_outside.specs.Disk.{Pending}
+use Rattle.line_store.specs.rdb_outside.Disk.{Pending}
 use Rattle.line_moves.proofs.Commits.{lands_with}
 use Rattle.line_moves.proofs.laws.a_commit_stands.Goals as goal
 

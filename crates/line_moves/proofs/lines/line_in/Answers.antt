@@ -1,7 +1,7 @@
 use Rattle.std.specs.Prelude.{Option, IfSome}
 use Rattle.std.proofs.Common.{rules, ◌∙◌, sym, subst}
-use Rattle.rdb_page.specs.declared.head.Head.{Head}
-use Rattle.rdb_page.specs.Page.{StandsAs}
+use Rattle.line_store.specs.rdb_page.declared.head.Head.{Head}
+use Rattle.line_store.specs.rdb_page.Page.{StandsAs}
 use Rattle.stable_lines.proofs.Never.{nothing_on, zeros_owner}
 use Rattle.line_moves.proofs.Reading.{line_is}
 use Rattle.line_moves.proofs.Spots.{place_has, never_elsewhere, no_line}

@@ -1,12 +1,12 @@
 use Rattle.std.proofs.Common.{◌≤◌, arith, ◌≡◌, ◌-◌, ◌∙◌, ℕ, List, inl, inr, ⊎_elim, ap, sym, subst}
-use Rattle.rdb_outside.specs.Disk.{Pending, Puts}
+use Rattle.line_store.specs.rdb_outside.Disk.{Pending, Puts}
 use Rattle.stable_lines.specs.Slots.{area_file, line_on}
 use Rattle.line_moves.specs.declared.places.Place.{Place}
 use Rattle.line_moves.specs.Changes.{IsForArea}
 use Rattle.line_moves.proofs.PageClasses.{owners_stay, owners_behind, classes_read, class_kept, classes_behind}
 use Rattle.line_moves.proofs.Runs.{reads_once, facts_read, writes_none, writes_one, more_behind, read_pends, here_at, still_tells}
 use Rattle.line_moves.proofs.KeyPlaces.{area_is, place_content}
-use Rattle.rdb_page.specs.Whole.{IsPageOf}
+use Rattle.line_store.specs.rdb_page.Whole.{IsPageOf}
 use Rattle.line_moves.specs.Changes.{Fits, PutsOne}
 use Rattle.line_moves.proofs.LinePut.{line_changed, other_line}
 use Rattle.line_moves.proofs.OnlyPut.{keeps_lines, same_behind, elsewhere_behind, puts_one}

@@ -1,7 +1,7 @@
 use Rattle.std.proofs.Common.{rules, subst}
 use Rattle.std.specs.Prelude.{Option, IfSome}
-use Rattle.rdb_page.specs.declared.head.Head.{Head}
-use Rattle.rdb_page.specs.Page.{StandsAs}
+use Rattle.line_store.specs.rdb_page.declared.head.Head.{Head}
+use Rattle.line_store.specs.rdb_page.Page.{StandsAs}
 use Rattle.line_moves.proofs.Placed.{placed, placed_is}
 use Rattle.line_moves.proofs.Spots.{unused_place, no_used}
 use Rattle.line_moves.proofs.pages.put_on.Goals as goal

@@ -1,7 +1,7 @@
 use Rattle.std.proofs.Common.{rules, ◌≡◌, ◌∙◌, ◌-◌, ℕ, ap, sym, inr, ⊎_elim, arith}
-use Rattle.area_files.specs.Areas.{space_page_of}
-use Rattle.space_pages.specs.Space.{owner_of}
-use Rattle.rdb_outside.specs.Disk.{Pending, Puts}
+use Rattle.line_store.specs.area_files.Areas.{space_page_of}
+use Rattle.stable_lines.specs.space_pages.Space.{owner_of}
+use Rattle.line_store.specs.rdb_outside.Disk.{Pending, Puts}
 use Rattle.stable_lines.specs.Slots.{area_file}
 use Rattle.line_moves.specs.Changes.{KeepsLines}
 use Rattle.line_moves.proofs.Runs.{reads_once, facts_read, writes_none, writes_one, more_behind, read_pends, here_at, still_tells}

@@ -2,9 +2,9 @@ use Rattle.std.proofs.Common.{rules, ◌≡◌, ◌≢◌, ◌∙◌, ◌+◌, �
 use Rattle.rdb_types.specs.declared.keys.Dbkey.{Dbkey}
 use Rattle.rdb_types.specs.declared.keys.Tsn.{Tsn}
 use Rattle.rdb_types.specs.declared.keys.Line.{Line}
-use Rattle.rdb_outside.specs.Disk.{Pending}
-use Rattle.area_files.specs.Areas.{IsDataPage}
-use Rattle.rdb_outside.specs.Runs.{then_reads}
+use Rattle.line_store.specs.rdb_outside.Disk.{Pending}
+use Rattle.line_store.specs.area_files.Areas.{IsDataPage}
+use Rattle.line_store.specs.rdb_outside.Runs.{then_reads}
 use Rattle.stable_lines.specs.Slots.{ruj_file, area_file, file_of, slot_of, line_on, line_at, entry_at}
 use Rattle.stable_lines.specs.Facts.{IsNotOpen}
 use Rattle.line_moves.specs.Changes.{IsPlaceOf, Fits}

@@ -1,7 +1,7 @@
 use Rattle.std.proofs.Common.{rules, ◌≤◌, List, ℕ, sym, subst, arith}
 use Rattle.rdb_outside.specs.Runs.{no_calls, then_reads}
-use Rattle.stable_lines.specs.Slots.{ruj_file}
-use Rattle.stable_lines.specs.Kept.{IsRujHeader}
+use Rattle.line_moves.specs.stable_lines.Slots.{ruj_file}
+use Rattle.line_moves.specs.stable_lines.Kept.{IsRujHeader}
 use Rattle.line_moves.proofs.Runs.{still_tells, facts_read, writes_none, reads_then_writes}
 use Rattle.line_opening.proofs.Closed.{passed_over, closed_there, all_closed}
 use Rattle.line_opening.proofs.closing.close_next.Goals as goal

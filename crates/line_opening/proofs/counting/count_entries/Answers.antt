@@ -2,8 +2,8 @@ use Rattle.std.proofs.Common.{◌≡◌, ◌∙◌, subst}
 use Rattle.rdb_types.specs.declared.file.FileId.{FileId}
 use Rattle.rdb_outside.specs.Disk.{zeros}
 use Rattle.rdb_outside.specs.Runs.{then_reads}
-use Rattle.journal_reading.specs.Journal.{EndsBy}
-use Rattle.stable_lines.specs.Slots.{ruj_file}
+use Rattle.journal_passing.specs.journal_reading.Journal.{EndsBy}
+use Rattle.line_moves.specs.stable_lines.Slots.{ruj_file}
 use Rattle.line_moves.proofs.Runs.{reads_once, still_tells}
 use Rattle.line_opening.proofs.Counted.{if_ok, count_same}
 use Rattle.line_opening.proofs.counting.count_entries.Goals as goal

@@ -1,7 +1,7 @@
 use Rattle.std.proofs.Common.{rules, ◌≡◌, ◌+◌, ◌≤◌, ◌∙◌, ℕ, List, sym, subst, refl, arith}
-use Rattle.ruj_journal.specs.Entry.{IsEntry}
+use Rattle.line_moves.specs.ruj_journal.Entry.{IsEntry}
 use Rattle.rdb_outside.specs.Runs.{no_calls, one_call}
-use Rattle.stable_lines.specs.Slots.{ruj_file, entry_at}
+use Rattle.line_moves.specs.stable_lines.Slots.{ruj_file, entry_at}
 use Rattle.line_moves.proofs.Runs.{still_tells}
 use Rattle.line_opening.proofs.Counted.{StandTo, none_yet, one_more, ends_there, ends_in_zeros}
 use Rattle.line_opening.proofs.counting.count_within.Goals as goal

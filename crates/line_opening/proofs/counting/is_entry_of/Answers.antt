@@ -1,9 +1,9 @@
 use Rattle.std.proofs.Common.{rules, ◌≡◌, ◌≢◌, ◌⊎◌, ⊎_elim, ap, subst, ◌∙◌}
 use Rattle.rdb_types.specs.declared.keys.Tsn.{Tsn}
-use Rattle.ruj_journal.specs.declared.entry.RujEntry.{RujEntry}
-use Rattle.ruj_journal.specs.Entry.{IsEntry}
-use Rattle.ruj_journal.proofs.Readings.{one_entry}
-use Rattle.stable_lines.specs.Slots.{Undo}
+use Rattle.line_moves.specs.ruj_journal.declared.entry.RujEntry.{RujEntry}
+use Rattle.line_moves.specs.ruj_journal.Entry.{IsEntry}
+use Rattle.line_moves.proofs.of_ruj_journal.Readings.{one_entry}
+use Rattle.line_moves.specs.stable_lines.Slots.{Undo}
 use Rattle.line_opening.proofs.counting.is_entry_of.Goals as goal
 
 pub returns-then-entry-tsn-clause-no : goal.returns-then-entry-tsn-clause-no

@@ -1,10 +1,10 @@
 use Rattle.std.proofs.Common.{rules, ◌∙◌, sym, subst}
 use Rattle.rdb_outside.specs.Disk.{Image}
-use Rattle.aij_journal.specs.Header.{IsHeader}
+use Rattle.journal_passing.specs.aij_journal.Header.{IsHeader}
 use Rattle.rdb_outside.specs.Runs.{one_call, then_reads}
-use Rattle.stable_lines.specs.Journal.{IsJournalOf}
+use Rattle.line_moves.specs.stable_lines.Journal.{IsJournalOf}
 use Rattle.line_moves.proofs.Runs.{still_tells, on_ok}
-use Rattle.new_database.specs.Maker.{aij_file}
+use Rattle.line_moves.specs.new_database.Maker.{aij_file}
 use Rattle.line_opening.proofs.Counted.{if_ok}
 use Rattle.line_opening.proofs.Passed.{image_same, ends_there}
 use Rattle.line_opening.proofs.groups.find_open.Goals as goal

@@ -1,6 +1,6 @@
 use Rattle.std.proofs.Common.{List, ℕ, ◌≡◌, ◌∙◌, sym, subst}
-use Rattle.aij_journal.specs.Header.{IsHeader}
-use Rattle.new_database.specs.Maker.{aij_file}
+use Rattle.journal_passing.specs.aij_journal.Header.{IsHeader}
+use Rattle.line_moves.specs.new_database.Maker.{aij_file}
 use Rattle.line_moves.proofs.Runs.{reads_once}
 use Rattle.line_opening.proofs.groups.first_number.Goals as goal
 

@@ -1,8 +1,8 @@
 use Rattle.std.proofs.Common.{rules, ◌+◌, ◌≤◌, ◌∙◌, List, ℕ, sym, ap, subst, arith}
 use Rattle.std.proofs.lemmas.List.{length-set}
 use Rattle.rdb_outside.specs.Runs.{then_reads}
-use Rattle.stable_lines.specs.Slots.{ruj_file, named}
-use Rattle.stable_lines.specs.Kept.{IsRujHeader}
+use Rattle.line_moves.specs.stable_lines.Slots.{ruj_file, named}
+use Rattle.line_moves.specs.stable_lines.Kept.{IsRujHeader}
 use Rattle.line_moves.proofs.Runs.{still_tells}
 use Rattle.line_opening.proofs.Reading.{named_more, all_are_named}
 use Rattle.line_opening.proofs.headers.all_named.Goals as goal

@@ -1,6 +1,6 @@
 use Rattle.std.proofs.Common.{◌≡◌, ◌+◌, ◌<◌, ℕ, IsTrue, get_or, length}
 use Rattle.rdb_outside.specs.Disk.{OnlyReads}
-use Rattle.stable_lines.specs.Slots.{ruj_file, named}
+use Rattle.line_moves.specs.stable_lines.Slots.{ruj_file, named}
 use Rattle.line_opening.proofs.headers.all_named.Given as goal
 
 abbrev pub invariant-loop-place : goal.invariant-loop-place

@@ -1,12 +1,12 @@
 use Rattle.std.proofs.Common.{rules, ◌≡◌, ◌+◌, ◌-◌, ◌≤◌, ◌<◌, ◌∙◌, ℕ, inl, inr, ⊎_elim, refl, subst, arith}
 use Rattle.rdb_outside.specs.Disk.{Pending}
 use Rattle.rdb_outside.specs.Runs.{no_calls, then_reads}
-use Rattle.stable_lines.specs.Slots.{area_file}
+use Rattle.line_moves.specs.stable_lines.Slots.{area_file}
 use Rattle.line_moves.proofs.Runs.{facts_read, still_tells, writes_none, reads_then_writes}
 use Rattle.line_moves.proofs.PageClasses.{owners_stay, classes_read}
 use Rattle.line_moves.proofs.OnlyPut.{keeps_lines, some_page}
 use Rattle.line_moves.proofs.FilledPages.{some_there}
-use Rattle.stable_lines.specs.Facts.{StandsAs}
+use Rattle.line_moves.specs.stable_lines.Facts.{StandsAs}
 use Rattle.line_opening.specs.Undoing.{AreUndone}
 use Rattle.line_opening.proofs.Backwards.{one_of_it, one_more_undone}
 use Rattle.line_opening.proofs.Standing.{stands_now, written_stands, leaves_on, ended_on}

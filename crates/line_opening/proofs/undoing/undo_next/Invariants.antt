@@ -1,9 +1,9 @@
 use Rattle.std.proofs.Common.{◌≡◌, ◌≤◌, ◌-◌, ◌⊎◌, length, IsTrue}
 use Rattle.rdb_types.specs.declared.keys.Dbkey.{Dbkey}
 use Rattle.rdb_outside.specs.Disk.{Pending, LeavesOnly, OnlyReads}
-use Rattle.stable_lines.specs.Slots.{line_at}
-use Rattle.stable_lines.specs.Progress.{Open, Progress}
-use Rattle.stable_lines.specs.Facts.{IsNotOpen, Facts, StandsAs}
+use Rattle.line_moves.specs.stable_lines.Slots.{line_at}
+use Rattle.line_moves.specs.stable_lines.Progress.{Open, Progress}
+use Rattle.line_moves.specs.stable_lines.Facts.{IsNotOpen, Facts, StandsAs}
 use Rattle.line_opening.specs.Undoing.{AreUndone, MayUndo}
 use Rattle.line_opening.proofs.undoing.undo_next.Given as goal
 

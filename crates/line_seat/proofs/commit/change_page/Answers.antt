@@ -3,7 +3,7 @@ use Rattle.rdb_outside.specs.Runs.{no_calls}
 use Rattle.area_files.specs.Areas.{IsDataPage}
 use Rattle.line_moves.proofs.Runs.{writes_none}
 use Rattle.line_moves.proofs.OnlyPut.{some_page}
-use Rattle.stable_lines.specs.Slots.{area_file}
+use Rattle.line_moves.specs.stable_lines.Slots.{area_file}
 use Rattle.line_seat.proofs.GroupSlots.{got_at}
 use Rattle.line_seat.proofs.CommitSteps.{may_still, entered_still, none_imaged, put_all, place_there}
 use Rattle.line_seat.proofs.RoomOnPages.{is_page, all_fit}

@@ -4,13 +4,13 @@ use Rattle.rdb_types.specs.declared.keys.Tsn.{Tsn}
 use Rattle.rdb_outside.specs.Disk.{Pending}
 use Rattle.rdb_outside.specs.Runs.{no_calls}
 use Rattle.rdb_types.specs.declared.file.FileKind.TheVariants.{Area, Aij}
-use Rattle.new_database.specs.Maker.{aij_file}
-use Rattle.stable_lines.specs.Slots.{area_file}
+use Rattle.line_moves.specs.new_database.Maker.{aij_file}
+use Rattle.line_moves.specs.stable_lines.Slots.{area_file}
 use Rattle.line_moves.proofs.Runs.{writes_none}
 use Rattle.line_moves.proofs.PageClasses.{owners_stay, owners_beside, classes_read, classes_beside}
 use Rattle.line_moves.proofs.OnlyPut.{keeps_lines, lines_beside}
-use Rattle.stable_lines.specs.Progress.{flying}
-use Rattle.stable_lines.specs.Facts.{Facts}
+use Rattle.line_moves.specs.stable_lines.Progress.{flying}
+use Rattle.line_moves.specs.stable_lines.Facts.{Facts}
 use Rattle.line_seat.specs.declared.commit.CommitStage.{CommitStage}
 use Rattle.line_seat.specs.Stages.{CommitFacts, progress_at}
 use Rattle.line_seat.proofs.CommitSteps.{if_ok, takes_off_with, commit_of_it}

@@ -1,6 +1,6 @@
 use Rattle.std.proofs.Common.{rules, arith, ◌+◌, ◌≤◌, ◌∙◌, length, Some, slice_get, ap, sym}
 use Rattle.rdb_outside.specs.Runs.{no_calls}
-use Rattle.new_database.specs.Maker.{aij_file}
+use Rattle.line_moves.specs.new_database.Maker.{aij_file}
 use Rattle.line_moves.proofs.Runs.{writes_none}
 use Rattle.aij_journal.specs.declared.part.AijPart.{AijPart}
 use Rattle.journal_scan.specs.declared.group.Group.{Group}

@@ -1,6 +1,6 @@
 use Rattle.std.proofs.Common.{None}
-use Rattle.stable_lines.specs.Progress.{without}
-use Rattle.stable_lines.proofs.Turns.{going_here}
+use Rattle.line_moves.specs.stable_lines.Progress.{without}
+use Rattle.line_moves.proofs.of_stable_lines.Turns.{going_here}
 use Rattle.line_seat.proofs.Ends.{is_undone, drawn}
 use Rattle.line_seat.proofs.ending.roll_back.Goals as goal
 

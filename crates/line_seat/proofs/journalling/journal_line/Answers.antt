@@ -2,7 +2,7 @@ use Rattle.std.proofs.Common.{◌∙◌, ◌+◌, ℕ, subst, refl, length, arit
 use Rattle.rdb_types.specs.declared.keys.Tsn.{Tsn}
 use Rattle.rdb_outside.specs.Disk.{Adds}
 use Rattle.ruj_journal.specs.Entry.{IsEntry}
-use Rattle.stable_lines.specs.Slots.{ruj_file, entry_at, line_at, Undo}
+use Rattle.line_moves.specs.stable_lines.Slots.{ruj_file, entry_at, line_at, Undo}
 use Rattle.line_seat.proofs.NextEntry.{none_there, none_counted, journalled_next}
 use Rattle.line_seat.proofs.journalling.journal_line.Goals as goal
 

@@ -1,5 +1,5 @@
 use Rattle.std.proofs.Common.{◌≡◌, ◌<◌, ℕ}
-use Rattle.page_table.specs.Pages.{owner_in, IsWithin}
+use Rattle.committed_tables.specs.page_table.Pages.{owner_in, IsWithin}
 use Rattle.member_rooms.proofs.classes.class_of.Given as goal
 
 abbrev pub invariant-loop-page : goal.invariant-loop-page

@@ -1,5 +1,5 @@
 use Rattle.std.proofs.Common.{Some, refl}
-use Rattle.page_table.specs.declared.uses.Sought.TheVariants.{Free}
+use Rattle.committed_tables.specs.page_table.declared.uses.Sought.TheVariants.{Free}
 use Rattle.member_rooms.proofs.Found.{same, passed, behind-further, fits-further}
 use Rattle.member_rooms.proofs.rooms.free_line.Goals as goal
 

@@ -1,6 +1,6 @@
 use Rattle.std.proofs.Common.{◌≡◌, ◌<◌, ℕ, List, Some}
 use Rattle.line_store.specs.Rooms.{first_line}
-use Rattle.page_table.specs.Scans.{IsNew}
+use Rattle.committed_tables.specs.page_table.Scans.{IsNew}
 use Rattle.member_rooms.specs.Rooms.{own_image}
 use Rattle.member_rooms.proofs.rooms.new_line_behind.Given as goal
 

@@ -1,10 +1,10 @@
 use Rattle.std.proofs.Common.{List, ℕ, sym, subst, arith}
 use Rattle.root_file.specs.Root.{IsRoot}
 use Rattle.new_database.specs.Maker.{root_file}
-use Rattle.line_moves.proofs.Runs.{facts_read, still_tells}
+use Rattle.disk_seats.proofs.of_line_moves.Runs.{facts_read, still_tells}
 use Rattle.member_steps.proofs.Begun.{begun}
 use Rattle.member_steps.proofs.Raised.{others_written, left_written, others_settled, left_settled}
-use Rattle.line_opening.proofs.Standing.{read_stands}
+use Rattle.disk_seats.proofs.of_line_opening.Standing.{read_stands}
 use Rattle.member_steps.proofs.beginning.begin_members.Goals as goal
 
 pub returns-in_err-root-clause-keeps : goal.returns-in_err-root-clause-keeps

@@ -1,6 +1,6 @@
 use Rattle.std.proofs.Common.{◌∙◌, refl, arith}
 use Rattle.new_database.specs.Maker.{root_file}
-use Rattle.line_moves.proofs.Runs.{read_pends}
+use Rattle.disk_seats.proofs.of_line_moves.Runs.{read_pends}
 use Rattle.member_steps.proofs.Begun.{limits_read}
 use Rattle.member_steps.proofs.beginning.next_root.Goals as goal
 

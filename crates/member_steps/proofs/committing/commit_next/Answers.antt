@@ -1,9 +1,9 @@
 use Rattle.std.proofs.Common.{◌≡◌, ◌∙◌, ap, refl, sym, subst}
 use Rattle.rdb_types.specs.declared.file.FileKind.TheVariants.{Area, Root as RootKind, Ruj, Snap}
-use Rattle.stable_lines.specs.Slots.{area_file, ruj_file}
-use Rattle.line_moves.proofs.Runs.{writes_none}
-use Rattle.line_moves.proofs.PageClasses.{owners_stay, classes_read}
-use Rattle.line_seat.proofs.CommitSteps.{if_ok}
+use Rattle.disk_seats.specs.stable_lines.Slots.{area_file, ruj_file}
+use Rattle.disk_seats.proofs.of_line_moves.Runs.{writes_none}
+use Rattle.disk_seats.proofs.of_line_moves.PageClasses.{owners_stay, classes_read}
+use Rattle.disk_seats.proofs.of_line_seat.CommitSteps.{if_ok}
 use Rattle.member_steps.specs.declared.committing.CommitTurn.{CommitTurn}
 use Rattle.member_steps.specs.declared.committing.CommitTurn.TheVariants.{Going}
 use Rattle.disk_seats.specs.Members.{LedgerFacts}

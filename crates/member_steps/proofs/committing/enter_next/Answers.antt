@@ -1,8 +1,8 @@
 use Rattle.std.proofs.Common.{rules, arith, ◌≤◌, ◌∙◌, ℕ, length, refl, ap, sym, subst, slice_get}
 use Rattle.rdb_outside.specs.Runs.{no_calls}
-use Rattle.stable_lines.specs.Slots.{area_file}
-use Rattle.line_moves.proofs.Runs.{writes_none}
-use Rattle.line_seat.proofs.GroupSlots.{got_at}
+use Rattle.disk_seats.specs.stable_lines.Slots.{area_file}
+use Rattle.disk_seats.proofs.of_line_moves.Runs.{writes_none}
+use Rattle.disk_seats.proofs.of_line_seat.GroupSlots.{got_at}
 use Rattle.member_steps.proofs.Journals.{spaces_there}
 use Rattle.member_steps.proofs.OwnersSaid.{may_still, none_owned, owned_all}
 use Rattle.member_steps.proofs.committing.enter_next.Goals as goal

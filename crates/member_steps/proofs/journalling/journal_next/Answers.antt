@@ -1,7 +1,7 @@
 use Rattle.std.proofs.Common.{rules, ◌≡◌, ◌+◌, ◌∙◌, Ok, inl, inr, ⊎_elim, ap, arith}
 use Rattle.rdb_types.specs.declared.keys.Tsn.{Tsn}
-use Rattle.stable_lines.specs.Slots.{ruj_file}
-use Rattle.line_moves.proofs.Runs.{writes_none, reads_then_writes, still_tells}
+use Rattle.disk_seats.specs.stable_lines.Slots.{ruj_file}
+use Rattle.disk_seats.proofs.of_line_moves.Runs.{writes_none, reads_then_writes, still_tells}
 use Rattle.member_steps.proofs.Journals.{none_written, names_now, page_there, read_ledger, with_line}
 use Rattle.member_steps.proofs.journalling.journal_next.Goals as goal
 

@@ -1,5 +1,5 @@
 use Rattle.std.proofs.Common.{arith}
-use Rattle.line_moves.proofs.PageClasses.{classes_read, classes_beside}
+use Rattle.disk_seats.proofs.of_line_moves.PageClasses.{classes_read, classes_beside}
 use Rattle.member_steps.proofs.ClassesHad.{classes_had}
 use Rattle.member_steps.proofs.laws.pages_have_classes.Goals as goal
 

@@ -1,4 +1,4 @@
-use Rattle.line_moves.proofs.PageClasses.{owners_stay, owners_beside}
+use Rattle.disk_seats.proofs.of_line_moves.PageClasses.{owners_stay, owners_beside}
 use Rattle.member_steps.proofs.laws.pages_keep_owners.Goals as goal
 
 pub returns-clause-reads : goal.returns-clause-reads

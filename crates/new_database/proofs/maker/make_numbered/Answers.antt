@@ -1,4 +1,4 @@
-use Rattle.rdb_types.specs.declared.file.FileId.{FileId}
+use Rattle.rdb_outside.specs.rdb_types.declared.file.FileId.{FileId}
 use Rattle.new_database.proofs.Stages.{no_calls, zeros_written}
 use Rattle.new_database.proofs.Zeros.{zero_slot}
 use Rattle.new_database.proofs.maker.make_numbered.Goals as goal

@@ -1,8 +1,8 @@
 use Rattle.std.proofs.Common.{rules, ◌≡◌, ◌+◌, ◌-◌, ◌≤◌, ◌∙◌, ℕ, List, get_or, subst, arith}
 use Rattle.rdb_outside.specs.Runs.{then_reads}
 use Rattle.area_files.specs.Areas.{IsPage, IsSpacePage, IsDataPage}
-use Rattle.stable_lines.specs.Slots.{area_file}
-use Rattle.line_moves.proofs.Runs.{still_tells}
+use Rattle.database_opening.specs.stable_lines.Slots.{area_file}
+use Rattle.database_opening.proofs.of_line_moves.Runs.{still_tells}
 use Rattle.page_table.specs.Pages.{nobodys, use_of}
 use Rattle.page_table.specs.Reading.{IsEntryOf}
 use Rattle.page_table.proofs.Filling.{one_more}

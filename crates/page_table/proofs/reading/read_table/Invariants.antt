@@ -1,7 +1,7 @@
 use Rattle.std.proofs.Common.{◌≡◌, ◌-◌, ◌≤◌, ℕ, IsTrue, get_or, length}
 use Rattle.rdb_outside.specs.Disk.{OnlyReads}
 use Rattle.area_files.specs.Areas.{IsPage, IsSpacePage, IsDataPage}
-use Rattle.stable_lines.specs.Slots.{area_file}
+use Rattle.database_opening.specs.stable_lines.Slots.{area_file}
 use Rattle.page_table.specs.Pages.{nobodys, use_of}
 use Rattle.page_table.specs.Reading.{IsEntryOf}
 use Rattle.page_table.proofs.reading.read_table.Given as goal

@@ -1,4 +1,4 @@
-use Rattle.line_moves.proofs.Runs.{reads_once}
+use Rattle.database_opening.proofs.of_line_moves.Runs.{reads_once}
 use Rattle.page_table.proofs.reading.read_use.Goals as goal
 
 pub returns-in_err-read-clause-reads : goal.returns-in_err-read-clause-reads

@@ -1,7 +1,7 @@
 use Rattle.std.proofs.Common.{sym, ap}
 use Rattle.rdb_types.specs.declared.keys.Line.{Line}
 use Rattle.rdb_page.specs.Page.{class_at}
-use Rattle.line_moves.proofs.Reading.{said_is}
+use Rattle.database_opening.proofs.of_line_moves.Reading.{said_is}
 use Rattle.page_table.proofs.reading.state_at.Goals as goal
 
 pub returns-clause-found : goal.returns-clause-found

@@ -1,10 +1,10 @@
 use Rattle.std.proofs.Common.{rules, ◌≡◌, ◌≢◌, ℕ, ◌≤◌, ◌∙◌, ap, sym, arith, below_more}
 use Rattle.rdb_page.specs.Page.{class_at, lines_of}
 use Rattle.rdb_page.specs.Lines.{line_place}
-use Rattle.stable_lines.specs.Slots.{said_at}
-use Rattle.line_moves.proofs.Reading.{owner_is, class_is}
-use Rattle.line_moves.proofs.Spots.{no_line}
-use Rattle.line_moves.proofs.Runs.{on_err}
+use Rattle.database_opening.specs.stable_lines.Slots.{said_at}
+use Rattle.database_opening.proofs.of_line_moves.Reading.{owner_is, class_is}
+use Rattle.database_opening.proofs.of_line_moves.Spots.{no_line}
+use Rattle.database_opening.proofs.of_line_moves.Runs.{on_err}
 use Rattle.page_table.specs.declared.uses.PageUse.{PageUse}
 use Rattle.page_table.specs.Pages.{state_in}
 use Rattle.page_table.proofs.Said.{none_has, states_are}

@@ -2,7 +2,7 @@ use Rattle.std.proofs.Common.{◌≡◌, ℕ, ◌≤◌, ◌<◌}
 use Rattle.rdb_types.specs.declared.keys.LineState.TheVariants.{Never}
 use Rattle.rdb_page.specs.Page.{class_at}
 use Rattle.rdb_page.specs.Lines.{line_place}
-use Rattle.stable_lines.specs.Slots.{said_at}
+use Rattle.database_opening.specs.stable_lines.Slots.{said_at}
 use Rattle.page_table.specs.Pages.{state_in}
 use Rattle.page_table.proofs.reading.with_states.Given as goal
 

@@ -1,5 +1,5 @@
 use Rattle.std.proofs.Common.{◌≡◌, length, drop}
-use Rattle.rdb_meaning.specs.Contents.{first_free}
+use Rattle.rdb_checks.specs.rdb_meaning.Contents.{first_free}
 use Rattle.rdb_definitions.proofs.areas.first_free.Given as goal
 
 abbrev pub invariant-loop-other : goal.invariant-loop-other

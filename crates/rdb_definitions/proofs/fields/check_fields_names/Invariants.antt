@@ -1,5 +1,5 @@
 use Rattle.std.proofs.Common.{◌≡◌, [], map, take, drop}
-use Rattle.rdb_meaning.specs.Defining.{fields_names}
+use Rattle.rdb_checks.specs.rdb_meaning.Defining.{fields_names}
 use Rattle.rdb_definitions.proofs.fields.check_fields_names.Given as goal
 
 abbrev pub invariant-loop-place : goal.invariant-loop-place

@@ -1,5 +1,5 @@
 use Rattle.std.proofs.Common.{◌≡◌, map, drop}
-use Rattle.rdb_meaning.specs.Defining.{is_among}
+use Rattle.rdb_checks.specs.rdb_meaning.Defining.{is_among}
 use Rattle.rdb_definitions.proofs.fields.is_named_among.Given as goal
 
 abbrev pub invariant-loop-field : goal.invariant-loop-field

@@ -1,5 +1,5 @@
 use Rattle.std.proofs.Common.{◌≡◌, map, take}
-use Rattle.rdb_meaning.specs.Defining.{new_field}
+use Rattle.rdb_checks.specs.rdb_meaning.Defining.{new_field}
 use Rattle.rdb_definitions.proofs.fields.new_fields.Given as goal
 
 abbrev pub invariant-loop-definition : goal.invariant-loop-definition

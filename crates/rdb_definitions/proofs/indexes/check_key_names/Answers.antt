@@ -1,5 +1,5 @@
 use Rattle.std.proofs.Common.{true, false, sym, ap, subst, ◌∙◌}
-use Rattle.rdb_meaning.specs.Checks.{Refusal, needs_some}
+use Rattle.rdb_checks.specs.rdb_meaning.Checks.{Refusal, needs_some}
 use Rattle.rdb_checks.specs.Answers.{Finds}
 use Rattle.rdb_definitions.proofs.KeyNames.{index_fields_names_more}
 use Rattle.rdb_definitions.proofs.indexes.check_key_names.Goals as goal

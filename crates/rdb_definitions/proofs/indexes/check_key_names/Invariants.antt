@@ -1,5 +1,5 @@
 use Rattle.std.proofs.Common.{◌≡◌, [], reverse, take, drop}
-use Rattle.rdb_meaning.specs.Defining.{index_fields_names}
+use Rattle.rdb_checks.specs.rdb_meaning.Defining.{index_fields_names}
 use Rattle.rdb_definitions.proofs.indexes.check_key_names.Given as goal
 
 abbrev pub invariant-loop-place : goal.invariant-loop-place

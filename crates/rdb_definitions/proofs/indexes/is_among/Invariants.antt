@@ -1,5 +1,5 @@
 use Rattle.std.proofs.Common.{◌≡◌, drop}
-use Rattle.rdb_meaning.specs.Defining.{is_among}
+use Rattle.rdb_checks.specs.rdb_meaning.Defining.{is_among}
 use Rattle.rdb_definitions.proofs.indexes.is_among.Given as goal
 
 abbrev pub invariant-loop-other : goal.invariant-loop-other

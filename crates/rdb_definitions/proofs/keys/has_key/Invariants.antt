@@ -1,5 +1,5 @@
 use Rattle.std.proofs.Common.{◌≡◌, drop}
-use Rattle.rdb_meaning.specs.Contents.{has_key}
+use Rattle.rdb_checks.specs.rdb_meaning.Contents.{has_key}
 use Rattle.rdb_definitions.proofs.keys.has_key.Given as goal
 
 abbrev pub invariant-loop-entry : goal.invariant-loop-entry

@@ -1,5 +1,5 @@
 use Rattle.std.proofs.Common.{◌≡◌, nat_lt, drop}
-use Rattle.rdb_meaning.specs.Defining.{longest_key}
+use Rattle.rdb_checks.specs.rdb_meaning.Defining.{longest_key}
 use Rattle.rdb_definitions.proofs.keys.is_key_too_long.Given as goal
 
 abbrev pub invariant-loop-name : goal.invariant-loop-name

@@ -1,7 +1,7 @@
 use Rattle.std.proofs.Common.{◌≡◌, drop}
 use Rattle.std.specs.Ordering.{is_eq}
 use Rattle.rdb_types.specs.Order.{row_order}
-use Rattle.rdb_meaning.specs.Contents.{key_of}
+use Rattle.rdb_checks.specs.rdb_meaning.Contents.{key_of}
 use Rattle.rdb_definitions.proofs.keys.is_same_key.Given as goal
 
 abbrev pub invariant-loop-place : goal.invariant-loop-place

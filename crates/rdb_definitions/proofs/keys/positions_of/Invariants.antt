@@ -1,5 +1,5 @@
 use Rattle.std.proofs.Common.{◌≡◌, ◌++◌, drop}
-use Rattle.rdb_meaning.specs.Defining.{positions_of}
+use Rattle.rdb_checks.specs.rdb_meaning.Defining.{positions_of}
 use Rattle.rdb_definitions.proofs.keys.positions_of.Given as goal
 
 abbrev pub invariant-loop-name : goal.invariant-loop-name

@@ -9,7 +9,7 @@ use Rattle.rdb_account.specs.Events.{event_of}
 use Rattle.workload_runs.specs.line_cluster.Deaths.{RoseBy, device_deaths}
 use Rattle.command_words.specs.Options.{limits_of, nothing_asked}
 use Rattle.sound_maps.specs.Maps.{IsSoundWith}
-use Rattle.rmu_commands.specs.Written.{HasText}
+use Rattle.workload_runs.specs.rmu_commands.Written.{HasText}
 use Rattle.workload_replies.specs.Replies.{has_death}
 use Rattle.workload_runs.specs.Among.{may_die_by}
 use Rattle.workload_runs.specs.Deaths.{HaveCauses, SomeDied}

@@ -5,8 +5,8 @@ use Rattle.line_view.specs.Knowledge.{Lines}
 use Rattle.line_store.specs.declared.answers.ReadStop.TheVariants as read
 use Rattle.line_store.specs.declared.answers.Fault.TheVariants.{Bad}
 use Rattle.line_moves.proofs.Runs.{still_tells}
-use Rattle.member_steps.proofs.Journals.{read_ledger}
-use Rattle.page_table.specs.Pages.{IsLineOf}
+use Rattle.seen_lines.proofs.of_member_steps.Journals.{read_ledger}
+use Rattle.seen_lines.specs.page_table.Pages.{IsLineOf}
 use Rattle.seen_lines.specs.Seen.{IsOfArea}
 use Rattle.seen_lines.proofs.Gathered.{Gathers, area_more, gathers_more, gathered_all, stop_on}
 use Rattle.reader_lines.proofs.Still.{reads_on}

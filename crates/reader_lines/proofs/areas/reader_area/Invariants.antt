@@ -3,9 +3,9 @@ use Rattle.rdb_types.specs.declared.keys.Dbkey.{Dbkey}
 use Rattle.rdb_outside.specs.Disk.{OnlyReads}
 use Rattle.rdb_page.specs.Page.{IsOwner}
 use Rattle.line_view.specs.Knowledge.{Lines}
-use Rattle.disk_seats.specs.Ledgers.{Ledger}
-use Rattle.committed_tables.specs.Tables.{WereUsed}
-use Rattle.page_table.specs.Pages.{IsLineOf}
+use Rattle.seen_lines.specs.disk_seats.Ledgers.{Ledger}
+use Rattle.seen_lines.specs.committed_tables.Tables.{WereUsed}
+use Rattle.seen_lines.specs.page_table.Pages.{IsLineOf}
 use Rattle.seen_lines.specs.Seen.{IsOfArea}
 use Rattle.seen_lines.proofs.Gathered.{Gathers, left}
 use Rattle.reader_lines.specs.Readers.{IsReader}

@@ -1,7 +1,7 @@
 use Rattle.std.proofs.Common.{◌∙◌, sym, arith}
 use Rattle.line_store.specs.declared.answers.Fault.TheVariants.{Bad}
-use Rattle.member_steps.proofs.Journals.{page_there}
-use Rattle.committed_lines.proofs.Bearing.{told_on}
+use Rattle.seen_lines.proofs.of_member_steps.Journals.{page_there}
+use Rattle.seen_lines.proofs.of_committed_lines.Bearing.{told_on}
 use Rattle.reader_lines.proofs.Unseen.{unseen_nowhere}
 use Rattle.reader_lines.proofs.lines.reader_line.Goals as goal
 

@@ -8,9 +8,9 @@ use Rattle.stable_lines.specs.Journal.{commit_of}
 use Rattle.stable_lines.specs.Progress.{Flight, Progress}
 use Rattle.line_moves.specs.Changes.{IsCommitOf}
 use Rattle.line_moves.specs.Lines.{ChangedLines}
-use Rattle.disk_store.specs.declared.member.Member.{Member}
-use Rattle.disk_store.proofs.Closing.{one-member}
-use Rattle.disk_store.proofs.CommitsKept.{due-room}
+use Rattle.store_endings.specs.disk_store.declared.member.Member.{Member}
+use Rattle.store_endings.proofs.of_disk_store.Closing.{one-member}
+use Rattle.store_endings.proofs.of_disk_store.CommitsKept.{due-room}
 use Rattle.recovery_steps.proofs.Awaited.{awaited}
 use Rattle.recovery_steps.proofs.judging.has_group.Goals as goal
 

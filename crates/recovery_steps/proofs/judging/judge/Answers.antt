@@ -2,17 +2,17 @@ use Rattle.std.proofs.Common.{◌≡◌, ◌+◌, ℕ, Bool, Ok, refl, sym, ap, 
 use Rattle.line_store.specs.Seats.{outside}
 use Rattle.line_store.specs.Calls.{GoesOn, IsSaved}
 use Rattle.line_store.specs.Sights.{Does}
-use Rattle.disk_store.specs.declared.member.Member.{Member}
-use Rattle.disk_store.specs.declared.member.MemberStage.TheVariants as stage
-use Rattle.disk_store.specs.declared.member.Recovery.TheVariants as recovery
-use Rattle.disk_store.specs.Memory.{StoreMemory, with_member, at_stage}
-use Rattle.disk_store.specs.Seats.{stand_at, steps_at, steps_of, steps_in}
-use Rattle.disk_store.specs.Shown.{sight_of}
-use Rattle.disk_store.proofs.Members.{set-here}
-use Rattle.disk_store.proofs.Closing.{one-member}
-use Rattle.disk_store.proofs.Failing.{does-fail}
-use Rattle.disk_store.proofs.Restored.{keeps-read}
-use Rattle.disk_store.proofs.Judged.{does-lose}
+use Rattle.store_endings.specs.disk_store.declared.member.Member.{Member}
+use Rattle.store_endings.specs.disk_store.declared.member.MemberStage.TheVariants as stage
+use Rattle.store_endings.specs.disk_store.declared.member.Recovery.TheVariants as recovery
+use Rattle.store_endings.specs.disk_store.Memory.{StoreMemory, with_member, at_stage}
+use Rattle.store_endings.specs.disk_store.Seats.{stand_at, steps_at, steps_of, steps_in}
+use Rattle.store_endings.specs.disk_store.Shown.{sight_of}
+use Rattle.store_endings.proofs.of_disk_store.Members.{set-here}
+use Rattle.store_endings.proofs.of_disk_store.Closing.{one-member}
+use Rattle.store_endings.proofs.of_disk_store.Failing.{does-fail}
+use Rattle.store_endings.proofs.of_disk_store.Restored.{keeps-read}
+use Rattle.store_endings.proofs.of_disk_store.Judged.{does-lose}
 use Rattle.recovery_steps.proofs.Awaited.{awaited}
 use Rattle.recovery_steps.proofs.Settling.{told-on, both-read, keeps-both, stable-behind}
 use Rattle.recovery_steps.proofs.Saved.{does-save}

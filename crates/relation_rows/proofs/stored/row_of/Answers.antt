@@ -1,6 +1,6 @@
 use Rattle.std.proofs.Common.{sym, subst, refl, ◌∙◌}
 use Rattle.std.proofs.lemmas.Option.{same_Some}
-use Rattle.record_format.specs.declared.row.VersionedRow.{VersionedRow}
+use Rattle.sorted_index_laws.specs.record_format.declared.row.VersionedRow.{VersionedRow}
 use Rattle.relation_rows.specs.Stored.{AreValuesIn}
 use Rattle.relation_rows.proofs.stored.row_of.Goals as goal
 

@@ -4,7 +4,7 @@ use Rattle.rdb_outside.specs.Disk.{Image}
 use Rattle.rdb_outside.specs.Runs.{then_reads}
 use Rattle.line_moves.proofs.Runs.{on_ok, still_tells}
 use Rattle.line_opening.proofs.Passed.{image_same}
-use Rattle.laid_groups.proofs.Faults.{err_same}
+use Rattle.fitted_groups.proofs.of_laid_groups.Faults.{err_same}
 use Rattle.fitted_groups.specs.declared.claims.PageClaim.{PageClaim}
 use Rattle.fitted_groups.specs.Claims.{AreFitted}
 use Rattle.rmu_recover.specs.Journals.{files_of, AreJournalsIn}

@@ -7,7 +7,7 @@ use Rattle.rdb_outside.specs.Runs.{no_calls, then_reads}
 use Rattle.new_database.specs.Maker.{aij_file}
 use Rattle.line_moves.proofs.Runs.{still_tells}
 use Rattle.journal_backup.specs.Copied.{copy_named}
-use Rattle.laid_groups.specs.Passing.{IsJournalIn}
+use Rattle.fitted_groups.specs.laid_groups.Passing.{IsJournalIn}
 use Rattle.fitted_groups.specs.Meeting.{lines_among}
 use Rattle.rmu_recover.specs.Journals.{files_of}
 use Rattle.rmu_recover.proofs.Walking.{journal_there, this_copy, no_more_copies, none_yet, copy_next, journal_last, laid_to_next}

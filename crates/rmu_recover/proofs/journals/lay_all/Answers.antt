@@ -11,9 +11,9 @@ use Rattle.rolled_lines.specs.HalfLaid.{writes_of}
 use Rattle.journal_backup.specs.Copied.{copy_named}
 use Rattle.guarded_lines.specs.Laying.{IsArea}
 use Rattle.guarded_root.proofs.Sweeping.{no_run, run_on}
-use Rattle.laid_groups.specs.Laid.{LaidOver}
-use Rattle.laid_groups.specs.Passing.{IsJournalIn}
-use Rattle.laid_groups.proofs.Running.{still_ready, none_ready, ready_on, none_laid}
+use Rattle.fitted_groups.specs.laid_groups.Laid.{LaidOver}
+use Rattle.fitted_groups.specs.laid_groups.Passing.{IsJournalIn}
+use Rattle.fitted_groups.proofs.of_laid_groups.Running.{still_ready, none_ready, ready_on, none_laid}
 use Rattle.rmu_recover.specs.Journals.{files_of}
 use Rattle.rmu_recover.proofs.Walking.{journal_there, this_copy, no_more_copies, none_yet, fits_here, laid_more, copy_next, journal_last, laid_to_next, all_front}
 use Rattle.rmu_recover.proofs.journals.lay_all.Goals as goal

@@ -4,7 +4,7 @@ use Rattle.guarded_root.specs.Guarded.{RunsBehind}
 use Rattle.guarded_lines.specs.Laying.{IsArea}
 use Rattle.stable_lines.specs.Journal.{Journal}
 use Rattle.rolled_lines.specs.Journals.{follow, laid}
-use Rattle.laid_groups.specs.Forward.{Forward, FitAll, IsReady, KeepsReady}
+use Rattle.fitted_groups.specs.laid_groups.Forward.{Forward, FitAll, IsReady, KeepsReady}
 use Rattle.rmu_recover.specs.Journals.{files_of, AreJournalsIn}
 use Rattle.rmu_recover.proofs.Walking.{LaidTo, LaidSoFar}
 use Rattle.rmu_recover.proofs.journals.lay_all.Given as goal

@@ -9,7 +9,7 @@ use Rattle.line_moves.proofs.Runs.{still_tells}
 use Rattle.line_opening.proofs.Counted.{if_ok}
 use Rattle.rolled_lines.specs.Journals.{gap}
 use Rattle.journal_backup.specs.Copied.{copy_named}
-use Rattle.laid_groups.specs.Passing.{IsJournalIn}
+use Rattle.fitted_groups.specs.laid_groups.Passing.{IsJournalIn}
 use Rattle.rmu_recover.specs.Journals.{files_of}
 use Rattle.rmu_recover.proofs.Walking.{journal_there, this_copy, no_more_copies, none_passed, gap_left, next_copy, last_next, passed_on, passed_all}
 use Rattle.rmu_recover.proofs.journals.pass_all.Goals as goal

@@ -9,7 +9,7 @@ use Rattle.line_moves.proofs.Runs.{on_ok, still_tells}
 use Rattle.line_opening.proofs.Counted.{if_ok}
 use Rattle.line_opening.proofs.Passed.{image_same}
 use Rattle.database_opening.proofs.Others.{file_read, file_on}
-use Rattle.laid_groups.proofs.Faults.{err_same}
+use Rattle.fitted_groups.proofs.of_laid_groups.Faults.{err_same}
 use Rattle.rolled_lines.specs.Journals.{follow}
 use Rattle.fitted_groups.specs.Meeting.{TakesFirst, FitPages}
 use Rattle.rmu_recover.specs.Recovering.{HasGroups}

@@ -5,7 +5,7 @@ use Rattle.rdb_outside.specs.Runs.{then_reads}
 use Rattle.line_moves.proofs.Runs.{still_tells}
 use Rattle.line_opening.proofs.Passed.{image_same}
 use Rattle.database_opening.proofs.Others.{file_read, file_on}
-use Rattle.laid_groups.proofs.Faults.{err_same}
+use Rattle.fitted_groups.proofs.of_laid_groups.Faults.{err_same}
 use Rattle.fitted_groups.specs.Meeting.{FitPages}
 use Rattle.rmu_recover.specs.Journals.{files_of, AreJournalsIn}
 use Rattle.rmu_recover.proofs.Faults.{laying_no_gap, laying_no_unfit}

@@ -6,8 +6,8 @@ use Rattle.line_opening.specs.declared.fault.OpeningFault.{OpeningFault}
 use Rattle.line_view.specs.Knowledge.{Lines, lines_in, keys_of}
 use Rattle.verified_lines.specs.Relations.{is_stray}
 use Rattle.page_faults.specs.Checks.{page_at}
-use Rattle.lines_at_rest.specs.declared.reading.FaultyPages.{FaultyPages}
-use Rattle.lines_at_rest.specs.Left.{LeavesOut, IsReadAs}
+use Rattle.areas_at_rest.specs.lines_at_rest.declared.reading.FaultyPages.{FaultyPages}
+use Rattle.areas_at_rest.specs.lines_at_rest.Left.{LeavesOut, IsReadAs}
 use Rattle.areas_at_rest.specs.Runs.{IsQuiet}
 use Rattle.std.proofs.lemmas.List.{append-nil}
 use Rattle.areas_at_rest.proofs.Quiet.{then as behind_reads, stopped, at_rest}

@@ -6,8 +6,8 @@ use Rattle.line_moves.proofs.Runs.{still_tells}
 use Rattle.line_opening.proofs.Passed.{image_same}
 use Rattle.rmu_texts.specs.declared.faults.VerifyFault.{VerifyFault}
 use Rattle.page_faults.specs.Listing.{Grows, ListsPages}
-use Rattle.lines_at_rest.specs.declared.reading.FaultyPages.TheVariants.{LeftOut}
-use Rattle.lines_at_rest.specs.Left.{LeavesOut}
+use Rattle.areas_at_rest.specs.lines_at_rest.declared.reading.FaultyPages.TheVariants.{LeftOut}
+use Rattle.areas_at_rest.specs.lines_at_rest.Left.{LeavesOut}
 use Rattle.areas_at_rest.proofs.Quiet.{rose_behind}
 use Rattle.rmu_verify.proofs.whole.verify.Goals as goal
 

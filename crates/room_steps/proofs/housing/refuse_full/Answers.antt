@@ -1,14 +1,14 @@
 use Rattle.std.proofs.Common.{refl, ◌∙◌, ap, Ok, arith}
-use Rattle.session_states.specs.declared.stage.Life.TheVariants.{Alive}
-use Rattle.session_states.specs.declared.stage.Work.TheVariants.{Lacking}
-use Rattle.session_states.specs.declared.stage.Stage.TheVariants.{Working}
+use Rattle.gathering_steps.specs.session_states.declared.stage.Life.TheVariants.{Alive}
+use Rattle.gathering_steps.specs.session_states.declared.stage.Work.TheVariants.{Lacking}
+use Rattle.gathering_steps.specs.session_states.declared.stage.Stage.TheVariants.{Working}
 use Rattle.line_view.specs.declared.need.Need.TheVariants.{Room}
-use Rattle.session_limits.proofs.AtLimits.{area-full-on}
-use Rattle.session_measure.proofs.Nearer.{nearer-answered}
-use Rattle.stage_steps.specs.Turns.{shared}
-use Rattle.stage_steps.proofs.Goes.{goes-still}
-use Rattle.stage_steps.proofs.Resting.{as-before}
-use Rattle.stage_steps.proofs.Seated.{rests-at}
+use Rattle.gathering_steps.proofs.of_session_limits.AtLimits.{area-full-on}
+use Rattle.gathering_steps.proofs.of_session_measure.Nearer.{nearer-answered}
+use Rattle.gathering_steps.specs.stage_steps.Turns.{shared}
+use Rattle.gathering_steps.proofs.of_stage_steps.Goes.{goes-still}
+use Rattle.gathering_steps.proofs.of_stage_steps.Resting.{as-before}
+use Rattle.gathering_steps.proofs.of_stage_steps.Seated.{rests-at}
 use Rattle.room_steps.proofs.housing.refuse_full.Goals as goal
 
 pub returns-in-Ok-true : goal.returns-in-Ok-true

@@ -2,20 +2,20 @@ use Rattle.std.proofs.Common.{ℕ, List, refl, subst, arith, length, ◌-◌}
 use Rattle.rdo_ast.specs.declared.syntax.Item.{Item}
 use Rattle.line_store.specs.Shelves.{Shelf}
 use Rattle.line_view.specs.declared.need.Need.TheVariants.{Room as RoomOf}
-use Rattle.session_states.specs.declared.stage.Life.TheVariants.{Alive}
-use Rattle.session_states.specs.declared.stage.Gather.TheVariants.{Locking, Housing}
-use Rattle.session_states.specs.declared.stage.Work.TheVariants.{Lacking}
-use Rattle.session_states.specs.declared.stage.Stage.{Stage}
-use Rattle.session_states.specs.declared.stage.Stage.TheVariants.{Working, Gathering}
-use Rattle.session_states.proofs.Gathering.{drops-on, houses-in-turn}
-use Rattle.session_states.specs.States.{session}
-use Rattle.session_measure.proofs.Falling.{by-place, by-round, housed}
-use Rattle.stage_steps.proofs.Nearer.{nearer-first}
-use Rattle.stage_steps.proofs.Jobs.{none-first}
-use Rattle.stage_steps.specs.Scenes.{ComesIn, beside, scene}
-use Rattle.stage_steps.specs.Turns.{at_stage, shared}
-use Rattle.stage_steps.proofs.Goes.{goes-still, comes-as}
-use Rattle.stage_steps.proofs.Seated.{rests-at}
+use Rattle.gathering_steps.specs.session_states.declared.stage.Life.TheVariants.{Alive}
+use Rattle.gathering_steps.specs.session_states.declared.stage.Gather.TheVariants.{Locking, Housing}
+use Rattle.gathering_steps.specs.session_states.declared.stage.Work.TheVariants.{Lacking}
+use Rattle.gathering_steps.specs.session_states.declared.stage.Stage.{Stage}
+use Rattle.gathering_steps.specs.session_states.declared.stage.Stage.TheVariants.{Working, Gathering}
+use Rattle.gathering_steps.proofs.of_session_states.Gathering.{drops-on, houses-in-turn}
+use Rattle.gathering_steps.specs.session_states.States.{session}
+use Rattle.gathering_steps.proofs.of_session_measure.Falling.{by-place, by-round, housed}
+use Rattle.gathering_steps.proofs.of_stage_steps.Nearer.{nearer-first}
+use Rattle.gathering_steps.proofs.of_stage_steps.Jobs.{none-first}
+use Rattle.gathering_steps.specs.stage_steps.Scenes.{ComesIn, beside, scene}
+use Rattle.gathering_steps.specs.stage_steps.Turns.{at_stage, shared}
+use Rattle.gathering_steps.proofs.of_stage_steps.Goes.{goes-still, comes-as}
+use Rattle.gathering_steps.proofs.of_stage_steps.Seated.{rests-at}
 use Rattle.room_steps.proofs.Before.{comes-behind}
 use Rattle.room_steps.proofs.Housed.{house-seat}
 use Rattle.room_steps.proofs.housing.want_line.Goals as goal

@@ -1,15 +1,15 @@
 use Rattle.std.proofs.Common.{refl, ◌∙◌, arith}
 use Rattle.line_store.specs.Shelves.{seen_by}
-use Rattle.session_states.specs.declared.stage.Life.TheVariants.{Alive}
-use Rattle.session_states.specs.declared.stage.Gather.TheVariants.{Lodging as LodgingOf}
-use Rattle.session_states.specs.declared.stage.Work.TheVariants.{Lodging}
-use Rattle.session_states.specs.declared.stage.Stage.TheVariants.{Working, Gathering}
-use Rattle.session_measure.proofs.Nearer.{nearer-in-round}
-use Rattle.stage_steps.specs.Turns.{at_stage, shared}
-use Rattle.stage_steps.proofs.Goes.{goes-still, comes-as}
-use Rattle.stage_steps.proofs.Nearer.{near-in}
-use Rattle.stage_steps.proofs.Resting.{as-before}
-use Rattle.stage_steps.proofs.Seated.{rests-at}
+use Rattle.gathering_steps.specs.session_states.declared.stage.Life.TheVariants.{Alive}
+use Rattle.gathering_steps.specs.session_states.declared.stage.Gather.TheVariants.{Lodging as LodgingOf}
+use Rattle.gathering_steps.specs.session_states.declared.stage.Work.TheVariants.{Lodging}
+use Rattle.gathering_steps.specs.session_states.declared.stage.Stage.TheVariants.{Working, Gathering}
+use Rattle.gathering_steps.proofs.of_session_measure.Nearer.{nearer-in-round}
+use Rattle.gathering_steps.specs.stage_steps.Turns.{at_stage, shared}
+use Rattle.gathering_steps.proofs.of_stage_steps.Goes.{goes-still, comes-as}
+use Rattle.gathering_steps.proofs.of_stage_steps.Nearer.{near-in}
+use Rattle.gathering_steps.proofs.of_stage_steps.Resting.{as-before}
+use Rattle.gathering_steps.proofs.of_stage_steps.Seated.{rests-at}
 use Rattle.room_steps.proofs.Before.{comes-behind}
 use Rattle.room_steps.proofs.Lodged.{lodged-off, lodging-still}
 use Rattle.room_steps.proofs.lodging.let_go.Goals as goal

@@ -1,17 +1,17 @@
 use Rattle.std.proofs.Common.{refl, ap, ◌∙◌, [], Ok}
-use Rattle.session_states.specs.declared.stage.Life.TheVariants.{Alive}
-use Rattle.session_states.specs.declared.stage.Gather.TheVariants.{Lodging as LodgingOf}
-use Rattle.session_states.specs.declared.stage.Stage.{Stage}
-use Rattle.session_states.specs.declared.stage.Stage.TheVariants.{Gathering}
-use Rattle.session_states.specs.States.{session}
-use Rattle.session_states.proofs.InTurn.{steps-on}
-use Rattle.session_measure.proofs.Nearer.{nearer-by-steps}
-use Rattle.stage_steps.specs.Turns.{at_stage, shared}
-use Rattle.stage_steps.proofs.Goes.{goes, goes-behind, has-failed, comes-as}
-use Rattle.stage_steps.proofs.Nearer.{near-in}
-use Rattle.stage_steps.proofs.Resting.{as-before}
-use Rattle.stage_steps.proofs.Seated.{rests-at}
-use Rattle.stage_steps.proofs.Read.{was-read, was-more, was-forgone, was-fault, was-failed}
+use Rattle.gathering_steps.specs.session_states.declared.stage.Life.TheVariants.{Alive}
+use Rattle.gathering_steps.specs.session_states.declared.stage.Gather.TheVariants.{Lodging as LodgingOf}
+use Rattle.gathering_steps.specs.session_states.declared.stage.Stage.{Stage}
+use Rattle.gathering_steps.specs.session_states.declared.stage.Stage.TheVariants.{Gathering}
+use Rattle.gathering_steps.specs.session_states.States.{session}
+use Rattle.gathering_steps.proofs.of_session_states.InTurn.{steps-on}
+use Rattle.gathering_steps.proofs.of_session_measure.Nearer.{nearer-by-steps}
+use Rattle.gathering_steps.specs.stage_steps.Turns.{at_stage, shared}
+use Rattle.gathering_steps.proofs.of_stage_steps.Goes.{goes, goes-behind, has-failed, comes-as}
+use Rattle.gathering_steps.proofs.of_stage_steps.Nearer.{near-in}
+use Rattle.gathering_steps.proofs.of_stage_steps.Resting.{as-before}
+use Rattle.gathering_steps.proofs.of_stage_steps.Seated.{rests-at}
+use Rattle.gathering_steps.proofs.of_stage_steps.Read.{was-read, was-more, was-forgone, was-fault, was-failed}
 use Rattle.room_steps.proofs.Lodged.{lodging-read}
 use Rattle.room_steps.proofs.lodging.lodge.Goals as goal
 

@@ -1,7 +1,7 @@
 use Rattle.std.proofs.Common.{refl}
-use Rattle.session_states.specs.declared.stage.Gather.TheVariants.{Lodging as LodgingOf}
-use Rattle.session_states.specs.declared.stage.Stage.TheVariants.{Gathering}
-use Rattle.stage_steps.proofs.Resting.{as-before}
+use Rattle.gathering_steps.specs.session_states.declared.stage.Gather.TheVariants.{Lodging as LodgingOf}
+use Rattle.gathering_steps.specs.session_states.declared.stage.Stage.TheVariants.{Gathering}
+use Rattle.gathering_steps.proofs.of_stage_steps.Resting.{as-before}
 use Rattle.room_steps.proofs.lodging.settle.Goals as goal
 
 pub returns-then-not-is_absent-clause-comes : goal.returns-then-not-is_absent-clause-comes

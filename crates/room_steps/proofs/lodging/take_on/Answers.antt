@@ -1,13 +1,13 @@
 use Rattle.std.proofs.Common.{refl, sym, ap, ◌∙◌, Ok}
-use Rattle.session_states.specs.declared.stage.Life.TheVariants.{Alive}
-use Rattle.session_states.specs.declared.stage.Gather.TheVariants.{Lodging as LodgingOf}
-use Rattle.session_states.specs.declared.stage.Stage.{Stage}
-use Rattle.session_states.specs.declared.stage.Stage.TheVariants.{Gathering}
-use Rattle.stage_steps.specs.Turns.{at_stage, shared}
-use Rattle.stage_steps.proofs.Goes.{goes, goes-behind-none, comes-as}
-use Rattle.stage_steps.proofs.Nearer.{near-in}
-use Rattle.stage_steps.proofs.Resting.{as-before}
-use Rattle.stage_steps.proofs.Seated.{rests-at}
+use Rattle.gathering_steps.specs.session_states.declared.stage.Life.TheVariants.{Alive}
+use Rattle.gathering_steps.specs.session_states.declared.stage.Gather.TheVariants.{Lodging as LodgingOf}
+use Rattle.gathering_steps.specs.session_states.declared.stage.Stage.{Stage}
+use Rattle.gathering_steps.specs.session_states.declared.stage.Stage.TheVariants.{Gathering}
+use Rattle.gathering_steps.specs.stage_steps.Turns.{at_stage, shared}
+use Rattle.gathering_steps.proofs.of_stage_steps.Goes.{goes, goes-behind-none, comes-as}
+use Rattle.gathering_steps.proofs.of_stage_steps.Nearer.{near-in}
+use Rattle.gathering_steps.proofs.of_stage_steps.Resting.{as-before}
+use Rattle.gathering_steps.proofs.of_stage_steps.Seated.{rests-at}
 use Rattle.gathering_steps.proofs.Nearer.{nearer-next}
 use Rattle.room_steps.proofs.Lodged.{lodged-on, more-refl}
 use Rattle.room_steps.proofs.lodging.take_on.Goals as goal

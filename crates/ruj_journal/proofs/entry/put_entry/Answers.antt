@@ -1,5 +1,5 @@
 use Rattle.std.proofs.Common.{◌≡◌, ◌∙◌, ◌+◌, ◌-◌, ap, refl, length, take, rules, arith}
-use Rattle.slot_fields.proofs.Laws.{laid_out}
+use Rattle.rdb_page.proofs.of_slot_fields.Laws.{laid_out}
 use Rattle.rdb_page.proofs.States.{byte_small}
 use Rattle.ruj_journal.specs.Entry.{entry_fields}
 use Rattle.ruj_journal.proofs.entry.put_entry.Goals as goal

@@ -1,5 +1,5 @@
 use Rattle.std.proofs.Common.{refl, rules}
-use Rattle.slot_fields.proofs.Laws.{laid_out}
+use Rattle.rdb_page.proofs.of_slot_fields.Laws.{laid_out}
 use Rattle.ruj_journal.specs.Header.{header_fields}
 use Rattle.ruj_journal.proofs.header.put_header.Goals as goal
 

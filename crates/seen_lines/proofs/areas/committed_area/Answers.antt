@@ -5,9 +5,9 @@ use Rattle.line_view.specs.Knowledge.{Lines, IsInOrder}
 use Rattle.line_store.specs.declared.answers.ReadStop.TheVariants as read
 use Rattle.line_store.specs.declared.answers.Fault.TheVariants.{Bad}
 use Rattle.line_moves.proofs.Runs.{still_tells}
-use Rattle.member_steps.proofs.Journals.{read_ledger}
-use Rattle.member_steps.proofs.Standings.{same_lines}
-use Rattle.page_table.specs.Pages.{IsLineOf}
+use Rattle.committed_lines.proofs.of_member_steps.Journals.{read_ledger}
+use Rattle.committed_lines.proofs.of_member_steps.Standings.{same_lines}
+use Rattle.committed_tables.specs.page_table.Pages.{IsLineOf}
 use Rattle.seen_lines.specs.Seen.{IsOfArea}
 use Rattle.seen_lines.proofs.Gathered.{Gathers, area_more, gathers_more, gathered_all, stop_on}
 use Rattle.seen_lines.proofs.areas.committed_area.Goals as goal

@@ -2,11 +2,11 @@ use Rattle.std.proofs.Common.{◌≡◌, ℕ, IsTrue, Some}
 use Rattle.rdb_types.specs.declared.keys.Dbkey.{Dbkey}
 use Rattle.rdb_outside.specs.Disk.{OnlyReads}
 use Rattle.rdb_page.specs.Page.{IsOwner}
-use Rattle.disk_seats.specs.Ledgers.{Ledger}
-use Rattle.disk_seats.specs.Members.{LedgerFacts}
+use Rattle.committed_lines.specs.disk_seats.Ledgers.{Ledger}
+use Rattle.committed_lines.specs.disk_seats.Members.{LedgerFacts}
 use Rattle.committed_lines.specs.Seen.{AreSeen}
 use Rattle.committed_tables.specs.Tables.{WereUsed}
-use Rattle.page_table.specs.Pages.{IsLineOf}
+use Rattle.committed_tables.specs.page_table.Pages.{IsLineOf}
 use Rattle.seen_lines.specs.Seen.{IsOfArea}
 use Rattle.seen_lines.proofs.Gathered.{Gathers, left}
 use Rattle.seen_lines.proofs.areas.committed_area.Given as goal

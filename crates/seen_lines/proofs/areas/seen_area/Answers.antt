@@ -1,6 +1,6 @@
 use Rattle.std.proofs.Common.{subst}
 use Rattle.line_view.specs.Knowledge.{Lines, IsInOrder}
-use Rattle.member_steps.proofs.Standings.{same_lines}
+use Rattle.committed_lines.proofs.of_member_steps.Standings.{same_lines}
 use Rattle.seen_lines.proofs.areas.seen_area.Goals as goal
 
 pub returns-in-Ok-lay_own-clause-seen : goal.returns-in-Ok-lay_own-clause-seen

@@ -1,5 +1,5 @@
-use Rattle.rdb_outside.specs.Disk.{Pending}
-use Rattle.rdb_outside.specs.Moments.{each_slot}
+use Rattle.journal_reading.specs.rdb_outside.Disk.{Pending}
+use Rattle.journal_reading.specs.rdb_outside.Moments.{each_slot}
 use Rattle.stable_lines.proofs.Stands.{stands}
 use Rattle.stable_lines.proofs.Rolls as rolls
 use Rattle.stable_lines.proofs.history.backups_roll_forward.Goals as goal

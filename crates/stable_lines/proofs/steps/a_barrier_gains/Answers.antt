@@ -1,6 +1,6 @@
 use Rattle.std.proofs.Common.{ℕ, List, sym, subst}
-use Rattle.rdb_outside.specs.Disk.{Pending}
-use Rattle.aij_journal.specs.Header.{IsHeader}
+use Rattle.journal_reading.specs.rdb_outside.Disk.{Pending}
+use Rattle.new_database.specs.aij_journal.Header.{IsHeader}
 use Rattle.new_database.specs.Maker.{aij_file}
 use Rattle.stable_lines.proofs.Barrier as barrier
 use Rattle.stable_lines.proofs.Anew.{settles}

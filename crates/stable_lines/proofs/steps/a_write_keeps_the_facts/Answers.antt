@@ -1,4 +1,4 @@
-use Rattle.rdb_outside.specs.Disk.{Pending}
+use Rattle.journal_reading.specs.rdb_outside.Disk.{Pending}
 use Rattle.stable_lines.proofs.Headers as headers
 use Rattle.stable_lines.proofs.SpaceWrite.{space_written}
 use Rattle.stable_lines.proofs.JournalWrite.{part_written, commit_written}

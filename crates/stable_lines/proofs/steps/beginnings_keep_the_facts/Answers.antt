@@ -1,4 +1,4 @@
-use Rattle.rdb_outside.specs.Disk.{Pending}
+use Rattle.journal_reading.specs.rdb_outside.Disk.{Pending}
 use Rattle.stable_lines.proofs.Turns.{begins}
 use Rattle.stable_lines.proofs.Anew.{begins_anew}
 use Rattle.stable_lines.proofs.steps.beginnings_keep_the_facts.Goals as goal

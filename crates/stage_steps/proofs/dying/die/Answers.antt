@@ -1,8 +1,8 @@
-use Rattle.session_states.specs.declared.stage.Life.TheVariants.{Alive, Dead}
+use Rattle.session_limits.specs.session_states.declared.stage.Life.TheVariants.{Alive, Dead}
 use Rattle.std.proofs.Common.{◌∙◌, ap, [], refl}
 use Rattle.std.specs.Prelude.{Bool}
 use Rattle.line_store.specs.Seats.{dead}
-use Rattle.session_states.proofs.Dying.{dies-on}
+use Rattle.session_limits.proofs.of_session_states.Dying.{dies-on}
 use Rattle.session_measure.proofs.Nearer.{nearer-died}
 use Rattle.stage_steps.specs.Scenes.{beside, scene}
 use Rattle.stage_steps.specs.Turns.{shared}

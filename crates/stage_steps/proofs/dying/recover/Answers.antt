@@ -1,7 +1,7 @@
 use Rattle.std.proofs.Common.{refl, ap, Ok, ◌∙◌}
-use Rattle.session_states.specs.declared.stage.Life.TheVariants.{Dead, Gone}
-use Rattle.session_states.proofs.Dying.{recovers-more}
-use Rattle.session_states.specs.States.{dead_session}
+use Rattle.session_limits.specs.session_states.declared.stage.Life.TheVariants.{Dead, Gone}
+use Rattle.session_limits.proofs.of_session_states.Dying.{recovers-more}
+use Rattle.session_limits.specs.session_states.States.{dead_session}
 use Rattle.session_measure.proofs.Falling.{by-steps}
 use Rattle.session_measure.proofs.Nearer.{nearer-recovered}
 use Rattle.stage_steps.specs.Scenes.{beside, scene}

@@ -1,9 +1,9 @@
-use Rattle.session_states.specs.declared.stage.Life.TheVariants.{Alive}
+use Rattle.session_limits.specs.session_states.declared.stage.Life.TheVariants.{Alive}
 use Rattle.std.proofs.Common.{◌∙◌, ap, refl, Ok, arith}
 use Rattle.line_store.specs.Seats.{done_at}
-use Rattle.session_states.specs.declared.stage.End.TheVariants.{Leaving}
-use Rattle.session_states.specs.declared.stage.Stage.TheVariants.{Ending}
-use Rattle.session_states.proofs.Ending.{left-on}
+use Rattle.session_limits.specs.session_states.declared.stage.End.TheVariants.{Leaving}
+use Rattle.session_limits.specs.session_states.declared.stage.Stage.TheVariants.{Ending}
+use Rattle.session_limits.proofs.of_session_states.Ending.{left-on}
 use Rattle.session_measure.proofs.Nearer.{nearer-by-rank}
 use Rattle.stage_steps.specs.Turns.{at_stage, shared}
 use Rattle.stage_steps.proofs.Goes.{goes, comes-as}

@@ -1,6 +1,6 @@
 use Rattle.std.proofs.Common.{refl, arith, []}
-use Rattle.session_states.specs.declared.stage.Life.TheVariants.{Alive}
-use Rattle.session_states.proofs.Ending.{leaves-on}
+use Rattle.session_limits.specs.session_states.declared.stage.Life.TheVariants.{Alive}
+use Rattle.session_limits.proofs.of_session_states.Ending.{leaves-on}
 use Rattle.session_measure.proofs.Nearer.{nearer-by-rank}
 use Rattle.stage_steps.specs.Turns.{shared}
 use Rattle.stage_steps.proofs.Goes.{goes}

@@ -1,7 +1,7 @@
 use Rattle.std.proofs.Common.{refl, ◌∙◌, subst, arith}
-use Rattle.session_states.specs.declared.stage.Life.TheVariants.{Alive}
-use Rattle.session_states.specs.declared.stage.End.TheVariants.{Preparing}
-use Rattle.session_states.specs.declared.stage.Stage.TheVariants.{Between, Ending}
+use Rattle.session_limits.specs.session_states.declared.stage.Life.TheVariants.{Alive}
+use Rattle.session_limits.specs.session_states.declared.stage.End.TheVariants.{Preparing}
+use Rattle.session_limits.specs.session_states.declared.stage.Stage.TheVariants.{Between, Ending}
 use Rattle.line_store.specs.declared.answers.CommitStop.{CommitStop}
 use Rattle.line_store.specs.Calls.{MayStopCommit}
 use Rattle.session_measure.proofs.Nearer.{nearer-answered}

@@ -1,10 +1,10 @@
-use Rattle.session_states.specs.declared.stage.Life.TheVariants.{Alive}
+use Rattle.session_limits.specs.session_states.declared.stage.Life.TheVariants.{Alive}
 use Rattle.std.proofs.Common.{refl, ◌∙◌, [], arith, ap, Ok}
-use Rattle.session_states.specs.declared.stage.Work.TheVariants.{Fetching}
-use Rattle.session_states.specs.declared.stage.Stage.TheVariants.{Working}
-use Rattle.session_states.specs.States.{session}
-use Rattle.session_states.proofs.InTurn.{steps-on}
-use Rattle.session_states.proofs.Resting.{rests-by}
+use Rattle.session_limits.specs.session_states.declared.stage.Work.TheVariants.{Fetching}
+use Rattle.session_limits.specs.session_states.declared.stage.Stage.TheVariants.{Working}
+use Rattle.session_limits.specs.session_states.States.{session}
+use Rattle.session_limits.proofs.of_session_states.InTurn.{steps-on}
+use Rattle.session_limits.proofs.of_session_states.Resting.{rests-by}
 use Rattle.session_measure.proofs.Nearer.{nearer-in-round, nearer-by-steps}
 use Rattle.stage_steps.specs.Turns.{at_stage, shared}
 use Rattle.stage_steps.proofs.Goes.{goes, goes-still, goes-behind, has-failed, comes-as}

@@ -1,8 +1,8 @@
 use Rattle.std.proofs.Common.{refl, false, true, subst, sym, arith}
-use Rattle.session_states.specs.Locks.{HasJournal}
-use Rattle.session_states.specs.declared.stage.Life.TheVariants.{Alive}
-use Rattle.session_states.specs.declared.stage.End.TheVariants.{Journal, Preparing}
-use Rattle.session_states.specs.declared.stage.Stage.TheVariants.{Ending}
+use Rattle.session_limits.specs.session_states.Locks.{HasJournal}
+use Rattle.session_limits.specs.session_states.declared.stage.Life.TheVariants.{Alive}
+use Rattle.session_limits.specs.session_states.declared.stage.End.TheVariants.{Journal, Preparing}
+use Rattle.session_limits.specs.session_states.declared.stage.Stage.TheVariants.{Ending}
 use Rattle.session_measure.proofs.Nearer.{nearer-by-rank, nearer-answered}
 use Rattle.stage_steps.specs.Turns.{at_stage, shared}
 use Rattle.stage_steps.proofs.Called.{got-step, asleep-step}

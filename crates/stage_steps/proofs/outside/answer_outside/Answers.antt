@@ -1,6 +1,6 @@
 use Rattle.std.proofs.Common.{ap, sym, ◌∙◌, refl}
 use Rattle.session_jobs.specs.declared.jobs.Job.{Job}
-use Rattle.session_states.proofs.Outside.{forgoes-outside}
+use Rattle.session_limits.proofs.of_session_states.Outside.{forgoes-outside}
 use Rattle.session_measure.proofs.Nearer.{nearer-said}
 use Rattle.stage_steps.proofs.Jobs.{answered-from}
 use Rattle.stage_steps.proofs.outside.answer_outside.Goals as goal

@@ -1,8 +1,8 @@
 use Rattle.std.proofs.Common.{refl, arith}
-use Rattle.session_states.specs.declared.stage.Life.TheVariants.{Alive}
-use Rattle.session_states.specs.declared.stage.Phase.TheVariants.{Outside}
-use Rattle.session_states.proofs.Reading.{begins-to-read}
-use Rattle.session_states.proofs.Outside.{forgoes-outside}
+use Rattle.session_limits.specs.session_states.declared.stage.Life.TheVariants.{Alive}
+use Rattle.session_limits.specs.session_states.declared.stage.Phase.TheVariants.{Outside}
+use Rattle.session_limits.proofs.of_session_states.Reading.{begins-to-read}
+use Rattle.session_limits.proofs.of_session_states.Outside.{forgoes-outside}
 use Rattle.session_measure.proofs.Nearer.{nearer-taken-up, nearer-said}
 use Rattle.stage_steps.specs.Turns.{shared}
 use Rattle.stage_steps.proofs.Goes.{goes, goes-staying}

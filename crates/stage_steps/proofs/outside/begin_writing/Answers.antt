@@ -1,7 +1,7 @@
-use Rattle.session_states.specs.declared.stage.Life.TheVariants.{Alive}
+use Rattle.session_limits.specs.session_states.declared.stage.Life.TheVariants.{Alive}
 use Rattle.std.proofs.Common.{sym, ◌∙◌, not, refl, arith}
-use Rattle.session_states.specs.declared.stage.Phase.TheVariants.{Outside}
-use Rattle.session_states.proofs.Parting.{begins-on, begins-stays}
+use Rattle.session_limits.specs.session_states.declared.stage.Phase.TheVariants.{Outside}
+use Rattle.session_limits.proofs.of_session_states.Parting.{begins-on, begins-stays}
 use Rattle.session_measure.proofs.Nearer.{nearer-taken-up}
 use Rattle.stage_steps.specs.Turns.{shared}
 use Rattle.stage_steps.proofs.Goes.{goes}

@@ -1,7 +1,7 @@
 use Rattle.std.proofs.Common.{refl, ap, Ok, ◌∙◌, arith}
-use Rattle.session_states.specs.declared.stage.Life.TheVariants.{Alive}
-use Rattle.session_states.specs.declared.stage.Phase.TheVariants.{Closing}
-use Rattle.session_states.proofs.Parting.{closes-on}
+use Rattle.session_limits.specs.session_states.declared.stage.Life.TheVariants.{Alive}
+use Rattle.session_limits.specs.session_states.declared.stage.Phase.TheVariants.{Closing}
+use Rattle.session_limits.proofs.of_session_states.Parting.{closes-on}
 use Rattle.session_measure.proofs.Nearer.{nearer-by-rank}
 use Rattle.stage_steps.specs.Turns.{shared}
 use Rattle.stage_steps.proofs.Goes.{goes, comes-as}

@@ -1,6 +1,6 @@
-use Rattle.session_states.specs.declared.stage.Life.TheVariants.{Alive}
-use Rattle.session_states.specs.declared.stage.Phase.TheVariants.{Outside}
-use Rattle.session_states.proofs.Outside.{forgoes-outside}
+use Rattle.session_limits.specs.session_states.declared.stage.Life.TheVariants.{Alive}
+use Rattle.session_limits.specs.session_states.declared.stage.Phase.TheVariants.{Outside}
+use Rattle.session_limits.proofs.of_session_states.Outside.{forgoes-outside}
 use Rattle.std.proofs.Common.{refl}
 use Rattle.session_measure.proofs.Nearer.{nearer-said}
 use Rattle.stage_steps.specs.Turns.{shared}

@@ -3,8 +3,8 @@ use Rattle.rdo_ast.specs.Views.{uttered_of}
 use Rattle.line_view.specs.Held.{knows}
 use Rattle.session_jobs.specs.declared.jobs.Job.{Job}
 use Rattle.session_jobs.specs.Jobs.{IsFound}
-use Rattle.session_states.specs.declared.stage.ReaderWork.TheVariants.{Out}
-use Rattle.session_states.specs.declared.stage.ReaderStage.TheVariants.{Working}
+use Rattle.session_limits.specs.session_states.declared.stage.ReaderWork.TheVariants.{Out}
+use Rattle.session_limits.specs.session_states.declared.stage.ReaderStage.TheVariants.{Working}
 use Rattle.stage_steps.specs.Scenes.{ComesIn, scene}
 use Rattle.stage_steps.specs.Turns.{reads_at}
 use Rattle.stage_steps.proofs.reading.compute_reading.Goals as goal

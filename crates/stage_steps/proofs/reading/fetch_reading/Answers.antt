@@ -1,9 +1,9 @@
-use Rattle.session_states.specs.declared.stage.Life.TheVariants.{Alive}
+use Rattle.session_limits.specs.session_states.declared.stage.Life.TheVariants.{Alive}
 use Rattle.std.proofs.Common.{refl, ◌∙◌, [], ap, Ok}
-use Rattle.session_states.specs.declared.stage.ReaderStage.{ReaderStage}
-use Rattle.session_states.specs.declared.stage.ReaderStage.TheVariants.{Gathering}
-use Rattle.session_states.specs.States.{session}
-use Rattle.session_states.proofs.InTurn.{steps-on}
+use Rattle.session_limits.specs.session_states.declared.stage.ReaderStage.{ReaderStage}
+use Rattle.session_limits.specs.session_states.declared.stage.ReaderStage.TheVariants.{Gathering}
+use Rattle.session_limits.specs.session_states.States.{session}
+use Rattle.session_limits.proofs.of_session_states.InTurn.{steps-on}
 use Rattle.session_measure.proofs.Nearer.{nearer-by-steps}
 use Rattle.stage_steps.specs.Turns.{reads_at, shared}
 use Rattle.stage_steps.proofs.Goes.{goes, goes-still, goes-behind, has-failed, comes-as}

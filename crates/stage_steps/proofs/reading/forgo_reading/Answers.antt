@@ -1,10 +1,10 @@
-use Rattle.session_states.specs.declared.stage.Life.TheVariants.{Alive}
+use Rattle.session_limits.specs.session_states.declared.stage.Life.TheVariants.{Alive}
 use Rattle.std.proofs.Common.{◌≡◌, ◌∙◌, ap, sym, refl, arith}
-use Rattle.session_states.proofs.Reading.{forgoes-to-reader}
-use Rattle.session_states.proofs.ReadingEnds.{reader-unstarted-on}
+use Rattle.session_limits.proofs.of_session_states.Reading.{forgoes-to-reader}
+use Rattle.session_limits.proofs.of_session_states.ReadingEnds.{reader-unstarted-on}
 use Rattle.session_measure.specs.Weights.{one_under_way}
 use Rattle.session_measure.proofs.Nearer.{nearer-answered}
-use Rattle.session_states.specs.States.{reader_item}
+use Rattle.session_limits.specs.session_states.States.{reader_item}
 use Rattle.stage_steps.specs.Turns.{shared}
 use Rattle.stage_steps.proofs.Goes.{goes, goes-still}
 use Rattle.stage_steps.proofs.Seated.{reads-on, reads-out}

@@ -1,7 +1,7 @@
 use Rattle.std.proofs.Common.{refl}
-use Rattle.session_states.specs.declared.stage.ReaderWork.TheVariants.{Due, Out}
-use Rattle.session_states.specs.declared.stage.ReaderStage.TheVariants.{Working}
-use Rattle.session_states.proofs.Reading.{goes-to-read}
+use Rattle.session_limits.specs.session_states.declared.stage.ReaderWork.TheVariants.{Due, Out}
+use Rattle.session_limits.specs.session_states.declared.stage.ReaderStage.TheVariants.{Working}
+use Rattle.session_limits.proofs.of_session_states.Reading.{goes-to-read}
 use Rattle.session_measure.proofs.Nearer.{nearer-handed-out}
 use Rattle.stage_steps.proofs.Seated.{reads-on}
 use Rattle.stage_steps.proofs.reading.hand_out_reading.Goals as goal

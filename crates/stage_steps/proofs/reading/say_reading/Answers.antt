@@ -1,5 +1,5 @@
 use Rattle.std.proofs.Common.{arith}
-use Rattle.session_states.proofs.Reading.{answers-to-reader}
+use Rattle.session_limits.proofs.of_session_states.Reading.{answers-to-reader}
 use Rattle.session_measure.proofs.Nearer.{nearer-answered}
 use Rattle.stage_steps.proofs.reading.say_reading.Goals as goal
 

@@ -1,12 +1,12 @@
-use Rattle.session_states.specs.declared.stage.Life.TheVariants.{Alive}
+use Rattle.session_limits.specs.session_states.declared.stage.Life.TheVariants.{Alive}
 use Rattle.std.proofs.Common.{refl, subst, ◌∙◌, arith}
 use Rattle.rdo_ast.specs.Views.{uttered_of}
 use Rattle.line_view.specs.Held.{knows}
 use Rattle.session_jobs.specs.declared.jobs.Found.{Found}
 use Rattle.session_jobs.specs.Jobs.{IsFound}
-use Rattle.session_states.specs.declared.stage.ReaderWork.TheVariants.{Due, Out}
-use Rattle.session_states.specs.declared.stage.ReaderStage.TheVariants.{Working, Gathering}
-use Rattle.session_states.proofs.Reading.{goes-to-read}
+use Rattle.session_limits.specs.session_states.declared.stage.ReaderWork.TheVariants.{Due, Out}
+use Rattle.session_limits.specs.session_states.declared.stage.ReaderStage.TheVariants.{Working, Gathering}
+use Rattle.session_limits.proofs.of_session_states.Reading.{goes-to-read}
 use Rattle.session_measure.proofs.Nearer.{nearer-in-round}
 use Rattle.stage_steps.specs.Turns.{shared}
 use Rattle.stage_steps.proofs.Goes.{goes-still, comes-as}

@@ -1,7 +1,7 @@
-use Rattle.session_states.specs.declared.stage.Life.TheVariants.{Alive}
+use Rattle.session_limits.specs.session_states.declared.stage.Life.TheVariants.{Alive}
 use Rattle.std.proofs.Common.{refl, arith}
-use Rattle.session_states.proofs.Reading.{takes-to-read}
-use Rattle.session_states.proofs.ReadingEnds.{reader-commits-on, reader-rolls-on}
+use Rattle.session_limits.proofs.of_session_states.Reading.{takes-to-read}
+use Rattle.session_limits.proofs.of_session_states.ReadingEnds.{reader-commits-on, reader-rolls-on}
 use Rattle.session_measure.proofs.Nearer.{nearer-taken-up, nearer-said}
 use Rattle.stage_steps.specs.Turns.{shared}
 use Rattle.stage_steps.proofs.Goes.{goes, goes-still}

@@ -1,8 +1,8 @@
-use Rattle.session_states.specs.declared.stage.Life.TheVariants.{Alive}
+use Rattle.session_limits.specs.session_states.declared.stage.Life.TheVariants.{Alive}
 use Rattle.std.proofs.Common.{◌∙◌, refl, ap, Ok, arith}
-use Rattle.session_states.specs.declared.stage.Laying.TheVariants.{Changing}
-use Rattle.session_states.specs.declared.stage.Stage.TheVariants.{Saying}
-use Rattle.session_states.proofs.Storing.{says-laid}
+use Rattle.session_limits.specs.session_states.declared.stage.Laying.TheVariants.{Changing}
+use Rattle.session_limits.specs.session_states.declared.stage.Stage.TheVariants.{Saying}
+use Rattle.session_limits.proofs.of_session_states.Storing.{says-laid}
 use Rattle.session_measure.proofs.Nearer.{nearer-answered}
 use Rattle.stage_steps.specs.Turns.{at_stage, shared}
 use Rattle.stage_steps.proofs.Goes.{goes, comes-as}

@@ -1,11 +1,11 @@
-use Rattle.session_states.specs.declared.stage.Life.TheVariants.{Alive}
+use Rattle.session_limits.specs.session_states.declared.stage.Life.TheVariants.{Alive}
 use Rattle.std.proofs.Common.{refl, ◌∙◌, [], sym, subst, List, arith}
 use Rattle.line_view.specs.declared.writes.Write.{Write}
 use Rattle.line_store.specs.Calls.{Changes}
-use Rattle.session_states.specs.declared.stage.Laying.TheVariants.{Claiming}
-use Rattle.session_states.specs.declared.stage.Stage.TheVariants.{Between, Saying}
-use Rattle.session_states.specs.Fits.{Follows}
-use Rattle.session_states.proofs.Storing.{changes-on}
+use Rattle.session_limits.specs.session_states.declared.stage.Laying.TheVariants.{Claiming}
+use Rattle.session_limits.specs.session_states.declared.stage.Stage.TheVariants.{Between, Saying}
+use Rattle.session_limits.specs.session_states.Fits.{Follows}
+use Rattle.session_limits.proofs.of_session_states.Storing.{changes-on}
 use Rattle.session_measure.proofs.Nearer.{nearer-by-rank, nearer-answered}
 use Rattle.rdo_ast.specs.declared.reply.Reply.TheVariants.{RujFull, SnapFull}
 use Rattle.stage_steps.specs.declared.happening.Happening.TheVariants.{Answered, Unlaid}

@@ -1,7 +1,7 @@
-use Rattle.session_states.specs.declared.stage.Life.TheVariants.{Alive}
+use Rattle.session_limits.specs.session_states.declared.stage.Life.TheVariants.{Alive}
 use Rattle.std.proofs.Common.{ap, arith}
 use Rattle.line_store.specs.Seats.{done_at}
-use Rattle.session_states.proofs.Starting.{start-answered-on}
+use Rattle.session_limits.proofs.of_session_states.Starting.{start-answered-on}
 use Rattle.session_measure.proofs.Nearer.{nearer-answered}
 use Rattle.stage_steps.specs.Turns.{shared}
 use Rattle.stage_steps.proofs.Goes.{goes}

@@ -1,5 +1,5 @@
-use Rattle.session_states.specs.Shared.{with_locks}
-use Rattle.session_states.proofs.Serving.{serves-on}
+use Rattle.session_limits.specs.session_states.Shared.{with_locks}
+use Rattle.session_limits.proofs.of_session_states.Serving.{serves-on}
 use Rattle.stage_steps.proofs.Serves.{locks-still}
 use Rattle.stage_steps.proofs.serving.serve.Goals as goal
 

@@ -1,4 +1,4 @@
-use Rattle.session_states.specs.declared.stage.Life.TheVariants.{Alive}
+use Rattle.session_limits.specs.session_states.declared.stage.Life.TheVariants.{Alive}
 use Rattle.std.proofs.Common.{ap, refl, ◌∙◌, arith}
 use Rattle.line_store.specs.Seats.{done_at}
 use Rattle.session_measure.proofs.Nearer.{nearer-answered}

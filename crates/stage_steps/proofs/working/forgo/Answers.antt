@@ -1,9 +1,9 @@
-use Rattle.session_states.specs.declared.stage.Life.TheVariants.{Alive}
+use Rattle.session_limits.specs.session_states.declared.stage.Life.TheVariants.{Alive}
 use Rattle.std.proofs.Common.{ap, refl, arith}
 use Rattle.rdo_ast.specs.Views.{uttered_of}
 use Rattle.line_store.specs.Seats.{done_at}
-use Rattle.session_states.proofs.Forgoing.{forgoes-on}
-use Rattle.session_states.proofs.Starting.{start-forgoes-on}
+use Rattle.session_limits.proofs.of_session_states.Forgoing.{forgoes-on}
+use Rattle.session_limits.proofs.of_session_states.Starting.{start-forgoes-on}
 use Rattle.session_measure.proofs.Nearer.{nearer-answered}
 use Rattle.session_measure.specs.Weights.{one_under_way}
 use Rattle.stage_steps.specs.Turns.{shared}

@@ -1,5 +1,5 @@
 use Rattle.std.proofs.Common.{refl}
-use Rattle.session_states.proofs.Working.{hands-out}
+use Rattle.session_limits.proofs.of_session_states.Working.{hands-out}
 use Rattle.session_measure.proofs.Nearer.{nearer-handed-out}
 use Rattle.stage_steps.proofs.Seated.{rests-at}
 use Rattle.stage_steps.proofs.working.hand_out.Goals as goal

@@ -1,10 +1,10 @@
-use Rattle.session_states.specs.declared.stage.Life.TheVariants.{Alive}
+use Rattle.session_limits.specs.session_states.declared.stage.Life.TheVariants.{Alive}
 use Rattle.std.proofs.Common.{◌∙◌, ap, refl, Ok, arith}
 use Rattle.line_store.specs.Seats.{Seat, done_at}
 use Rattle.line_store.specs.Sights.{bare, seat_or}
-use Rattle.session_states.specs.declared.stage.Work.TheVariants.{Opening}
-use Rattle.session_states.specs.declared.stage.Stage.TheVariants.{Working}
-use Rattle.session_states.proofs.Parting.{opens-on}
+use Rattle.session_limits.specs.session_states.declared.stage.Work.TheVariants.{Opening}
+use Rattle.session_limits.specs.session_states.declared.stage.Stage.TheVariants.{Working}
+use Rattle.session_limits.proofs.of_session_states.Parting.{opens-on}
 use Rattle.session_measure.proofs.Nearer.{nearer-by-rank}
 use Rattle.stage_steps.specs.Turns.{at_stage, shared}
 use Rattle.stage_steps.proofs.Goes.{goes, comes-as}

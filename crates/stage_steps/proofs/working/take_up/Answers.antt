@@ -1,7 +1,7 @@
-use Rattle.session_states.specs.declared.stage.Life.TheVariants.{Alive}
+use Rattle.session_limits.specs.session_states.declared.stage.Life.TheVariants.{Alive}
 use Rattle.std.proofs.Common.{refl, arith}
-use Rattle.session_states.proofs.Ending.{rolls-on}
-use Rattle.session_states.proofs.Working.{takes-statement, takes-commit}
+use Rattle.session_limits.proofs.of_session_states.Ending.{rolls-on}
+use Rattle.session_limits.proofs.of_session_states.Working.{takes-statement, takes-commit}
 use Rattle.session_measure.proofs.Nearer.{nearer-taken-up}
 use Rattle.stage_steps.specs.Turns.{shared}
 use Rattle.stage_steps.proofs.Goes.{goes, goes-still}

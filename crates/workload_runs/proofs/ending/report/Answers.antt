@@ -3,7 +3,7 @@ use Rattle.rdb_outside.specs.Disk.{Image}
 use Rattle.stable_lines.specs.Journal.{IsJournalOf}
 use Rattle.page_faults.proofs.Reading.{image_same}
 use Rattle.rmu_texts.specs.declared.faults.VerifyFault.{VerifyFault}
-use Rattle.rmu_verify.specs.Verified.{AreFaults}
+use Rattle.faultless_databases.specs.rmu_verify.Verified.{AreFaults}
 use Rattle.rmu_commands.proofs.Statuses.{gave_up}
 use Rattle.workload_runs.proofs.Opening.{told-before}
 use Rattle.workload_runs.proofs.Reporting.{gave-up, speaks}

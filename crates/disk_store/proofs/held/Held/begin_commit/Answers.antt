@@ -6,7 +6,7 @@ use Rattle.disk_store.specs.Memory.{StoreMemory, at_stage, with_member}
 use Rattle.disk_store.specs.Sound.{IsSound}
 use Rattle.disk_store.proofs.Members.{lent-there, set-long}
 use Rattle.disk_store.proofs.Sound.{sound-member, sound-as, keeps-lines}
-use Rattle.member_steps.specs.declared.committing.CommitTurn.TheVariants.{Entering}
+use Rattle.member_rooms.specs.member_steps.declared.committing.CommitTurn.TheVariants.{Entering}
 use Rattle.disk_store.specs.Seats.{IsAtStage}
 use Rattle.disk_store.specs.Commits.{is_flying}
 use Rattle.disk_store.proofs.CommitsKept.{begun-kept}

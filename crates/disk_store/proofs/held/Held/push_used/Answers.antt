@@ -4,10 +4,10 @@ use Rattle.rdb_types.specs.declared.keys.Dbkey.{Dbkey}
 use Rattle.line_versions.specs.Versions.{snap_of}
 use Rattle.line_moves.specs.declared.places.Place.{Place}
 use Rattle.line_moves.specs.Changes.{IsPlaceOf}
-use Rattle.version_writing.specs.declared.snapshot_slots.Wanted.{Wanted}
-use Rattle.version_writing.specs.declared.snapshot_slots.SnapshotSlots.{SnapshotSlots}
-use Rattle.member_steps.proofs.Journals.{page_there}
-use Rattle.version_writing.proofs.AllHeld.{its_file, is_file}
+use Rattle.reader_lines.specs.version_writing.declared.snapshot_slots.Wanted.{Wanted}
+use Rattle.reader_lines.specs.version_writing.declared.snapshot_slots.SnapshotSlots.{SnapshotSlots}
+use Rattle.member_rooms.proofs.of_member_steps.Journals.{page_there}
+use Rattle.reader_lines.proofs.of_version_writing.AllHeld.{its_file, is_file}
 use Rattle.disk_store.specs.declared.member.Member.{Member}
 use Rattle.disk_store.specs.declared.member.MemberStage.TheVariants as stage
 use Rattle.disk_store.specs.ChangeSteps.{IsNext, Rechains, StandsAside, TakesAside, broken_off, pushed_more, spent, with_spent}

@@ -1,5 +1,5 @@
 use Rattle.std.proofs.Common.{ap, subst, sym}
-use Rattle.page_table.specs.Scans.{IsNew}
+use Rattle.member_rooms.specs.page_table.Scans.{IsNew}
 use Rattle.disk_store.specs.declared.held.Tables.{Tables}
 use Rattle.disk_store.specs.Memory.{StoreMemory, with_tables}
 use Rattle.disk_store.specs.Shown.{pages_of}

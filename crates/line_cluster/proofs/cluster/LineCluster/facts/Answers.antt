@@ -2,7 +2,7 @@ use Rattle.std.proofs.Common.{◌≡◌, ◌≤◌, ℕ, false, map, subst}
 use Rattle.rdb_account.specs.Events.{event_of}
 use Rattle.rdb_account.specs.Places.{place}
 use Rattle.line_store.specs.Seats.{Seat}
-use Rattle.session_stands.specs.Sessions.{AreSeated}
+use Rattle.line_account.specs.session_stands.Sessions.{AreSeated}
 use Rattle.line_cluster.specs.Measured.{IsBounded}
 use Rattle.line_cluster.specs.Turned.{Sessions, HasNothingLeft, HaveAllEnded, HaveEnded, IsAtEnd}
 use Rattle.line_cluster.proofs.Coming.{none-from}

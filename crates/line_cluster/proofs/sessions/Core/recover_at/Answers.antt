@@ -3,11 +3,11 @@ use Rattle.std.specs.Vec.{vec_len}
 use Rattle.std.proofs.lemmas.Bool.{false≢true}
 use Rattle.rdb_account.specs.Events.{event_of}
 use Rattle.line_store.specs.declared.answers.Fault.{Fault}
-use Rattle.session_states.specs.declared.stage.Life.{Life}
-use Rattle.session_states.specs.declared.stage.Member.{Member}
-use Rattle.stage_steps.specs.declared.dying.Recovery.{Recovery}
-use Rattle.stage_steps.specs.Deaths.{life_behind, recovery_events}
-use Rattle.stage_steps.specs.Scenes.{scene}
+use Rattle.line_account.specs.session_states.declared.stage.Life.{Life}
+use Rattle.line_account.specs.session_states.declared.stage.Member.{Member}
+use Rattle.line_account.specs.stage_steps.declared.dying.Recovery.{Recovery}
+use Rattle.line_account.specs.stage_steps.Deaths.{life_behind, recovery_events}
+use Rattle.line_account.specs.stage_steps.Scenes.{scene}
 use Rattle.lent_members.specs.Going.{with_life}
 use Rattle.line_cluster.specs.Sound.{is_over_slot, is_unsound}
 use Rattle.line_cluster.proofs.Coming.{has-recovered-on, put-back}

@@ -1,7 +1,7 @@
 use Rattle.std.proofs.Common.{refl, sym, ap, map, append-nil, inl, inr}
 use Rattle.rdb_types.specs.declared.session.Cause.TheVariants.{Memory}
 use Rattle.rdb_account.specs.Events.{event_of}
-use Rattle.stage_steps.specs.Notices.{demoted_by}
+use Rattle.line_account.specs.stage_steps.Notices.{demoted_by}
 use Rattle.line_cluster.specs.Deaths.{faults_in}
 use Rattle.line_cluster.specs.Sound.{is_over_slot, is_unsound}
 use Rattle.line_cluster.proofs.Faults.{counts-fewer, demotion-alive, other-death}

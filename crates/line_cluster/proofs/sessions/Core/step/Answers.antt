@@ -2,12 +2,12 @@ use Rattle.std.proofs.Common.{◌∙◌, ◌+◌, ◌++◌, ◌&&◌, ◌≡◌,
 use Rattle.rdb_types.specs.declared.session.Cause.TheVariants.{Device}
 use Rattle.rdb_account.specs.Events.{event_of}
 use Rattle.line_store.specs.Sights.{Sight}
-use Rattle.session_states.specs.declared.stage.Member.{Member}
-use Rattle.session_states.specs.States.{session}
+use Rattle.line_account.specs.session_states.declared.stage.Member.{Member}
+use Rattle.line_account.specs.session_states.States.{session}
 use Rattle.rdb_drive.specs.Boards.{Less}
-use Rattle.stage_steps.specs.declared.happening.Happening.{Happening}
-use Rattle.stage_steps.specs.Happenings.{events_of, handed_back}
-use Rattle.stage_steps.specs.Scenes.{Scene, NearerIn, beside, scene}
+use Rattle.line_account.specs.stage_steps.declared.happening.Happening.{Happening}
+use Rattle.line_account.specs.stage_steps.Happenings.{events_of, handed_back}
+use Rattle.line_account.specs.stage_steps.Scenes.{Scene, NearerIn, beside, scene}
 use Rattle.lent_members.specs.line_arms.declared.allotment.Allotment.{Allotment}
 use Rattle.line_cluster.specs.declared.behind.Behind.{Behind}
 use Rattle.line_cluster.specs.Behind.{halt_behind}

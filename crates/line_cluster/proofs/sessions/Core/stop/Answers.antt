@@ -1,6 +1,6 @@
 use Rattle.std.proofs.Common.{refl, map}
 use Rattle.rdb_account.specs.Events.{event_of}
-use Rattle.stage_steps.specs.Scenes.{scene}
+use Rattle.line_account.specs.stage_steps.Scenes.{scene}
 use Rattle.line_cluster.proofs.Stepping.{stops}
 use Rattle.line_cluster.proofs.sessions.Core.stop.Goals as goal
 

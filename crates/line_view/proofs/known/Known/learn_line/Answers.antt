@@ -1,6 +1,6 @@
 use Rattle.std.proofs.Common.{sym, ap, subst, ◌∙◌}
 use Rattle.std.specs.BTreeMap.{insert_entry}
-use Rattle.rdb_types.specs.Order.{dbkey_order}
+use Rattle.ordered_entries.specs.rdb_types.Order.{dbkey_order}
 use Rattle.line_view.specs.Knowledge.{Agrees}
 use Rattle.line_view.specs.Held.{AreRooms, knows}
 use Rattle.line_view.proofs.Agreements.{line_agrees}

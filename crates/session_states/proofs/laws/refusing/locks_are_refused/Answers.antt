@@ -1,7 +1,7 @@
 use Rattle.std.proofs.Common.{refl, ◌∙◌, ap, not}
 use Rattle.rdo_ast.specs.Views.{uttered_of}
 use Rattle.rdo_ast.specs.declared.reply.Reply.TheVariants as r
-use Rattle.lock_ties.proofs.Answers.{conflict-lawful, deadlock-lawful}
+use Rattle.line_steps.proofs.of_lock_ties.Answers.{conflict-lawful, deadlock-lawful}
 use Rattle.session_states.proofs.Refusing.{refuses-on, asks-waits}
 use Rattle.session_states.proofs.laws.refusing.locks_are_refused.Goals as goal
 

@@ -2,7 +2,7 @@ use Rattle.std.proofs.Common.{refl, ◌∙◌, ap, not}
 use Rattle.rdo_ast.specs.Views.{uttered_of}
 use Rattle.session_states.proofs.Refusing.{asks-waits}
 use Rattle.rdo_ast.specs.declared.reply.Reply.TheVariants as r
-use Rattle.lock_ties.proofs.Answers.{conflict-lawful, deadlock-lawful}
+use Rattle.line_steps.proofs.of_lock_ties.Answers.{conflict-lawful, deadlock-lawful}
 use Rattle.session_states.proofs.Starting.{start-answered-on, start-refuses-on, start-forgoes-on}
 use Rattle.session_states.proofs.laws.refusing.starts_are_refused.Goals as goal
 

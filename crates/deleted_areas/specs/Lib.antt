@@ -1,0 +1,1 @@
+pub use Rattle.schema_writes.specs as schema_writes
