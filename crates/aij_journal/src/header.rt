@@ -2,7 +2,7 @@
 ghost use Rattle.std.specs.Prelude.{◌≡◌, ◌≤◌, ◌^◌, ℕ, List, Some, length, IfSome, IfNone};
 ghost use Rattle.aij_journal.specs.Header.{IsHeader};
 
-use rdb_page::slot_fields::{has_bytes, has_zeros, put_bytes, put_u64, put_zeros, u64_at};
+use rdb_page::{has_bytes, has_zeros, put_bytes, put_u64, put_zeros, u64_at};
 
 /// Lays out the header, with the number of the first group.
 pub fn put_header(slot: &mut [u8], first: u64)

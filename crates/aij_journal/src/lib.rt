@@ -6,4 +6,4 @@ mod part;
 
 pub use header::{one_header, put_header, read_header};
 pub use part::{AijPart, GroupLine, one_part, put_slot, read_slot};
-pub use rdb_page::rdb_types;
+pub use rdb_page::{Items, Limits, NoMemory, Tsn};

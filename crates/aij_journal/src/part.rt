@@ -5,12 +5,10 @@ ghost use Rattle.rdb_page.specs.slot_fields.Fields.{HasFrom};
 ghost use Rattle.aij_journal.specs.Part.{what_fields, IsPart, IsAllowedLine, IsAllowedWhat, LeavesLine};
 ghost use Rattle.aij_journal.specs.declared.part.AijPart.{AijPart as Part};
 
-use rdb_page::rdb_types::{Dbkey, Image, LineState, Tsn};
-use rdb_page::slot_fields::{
-    bytes_at, has_bytes, has_zeros, put_bytes, put_u8, put_u16, put_u32, put_u64, put_zeros, u8_at,
-    u16_at, u32_at, u64_at,
+use rdb_page::{
+    Dbkey, Image, LineState, Tsn, bytes_at, has_bytes, has_zeros, put_bytes, put_u8, put_u16,
+    put_u32, put_u64, put_zeros, state_byte, state_of, u8_at, u16_at, u32_at, u64_at,
 };
-use rdb_page::{state_byte, state_of};
 
 /// A line as a commit leaves it.
 #[derive(Drop)]

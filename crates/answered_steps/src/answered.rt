@@ -6,8 +6,7 @@ ghost use Rattle.job_steps.specs.session_measure.Nearer.{AreRounds};
 ghost use Rattle.job_steps.specs.stage_steps.Scenes.{ComesIn, scene};
 ghost use Rattle.answered_steps.specs.Absences.{phase_with};
 
-use job_steps::stage_steps::{Common, ReaderTerms, Terms, Turned, take_found_reading};
-use job_steps::take_found;
+use job_steps::{Common, ReaderTerms, Terms, Turned, take_found, take_found_reading};
 use lent_jobs::WorkedJob;
 use line_store::LineStore;
 use rdb_types::Session;

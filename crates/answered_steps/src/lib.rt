@@ -4,4 +4,3 @@
 mod answered;
 
 pub use answered::{Absence, take_answered};
-pub use job_steps::session_states;

@@ -5,9 +5,11 @@ ghost use Rattle.std.specs.Prelude.{◌≡◌, ◌≤◌, ◌<◌, ◌-◌, ◌�
 ghost use Rattle.rdb_page.specs.Page.{IsOwner};
 ghost use Rattle.area_files.specs.Areas.{IsPage, IsDataPage, IsSpacePage, IsNextPage, space_page_of as space_of, entry_of};
 
-pub use rdb_page;
-use rdb_page::rdb_types::Limits;
-pub use rdb_page::slot_fields;
+use rdb_page::Limits;
+pub use rdb_page::{
+    BadPage, Head, has_bytes, has_zeros, is_allowed_line, is_zeros, lines_of, put_bytes, put_head,
+    put_line, put_u8, put_u32, put_zeros, read_head, read_line, u8_at, u32_at,
+};
 
 /// Where the entry of a page stands: the number of its space page, and the entry's place among those there, counted from 0.
 #[derive(Clone, Copy, Debug, PartialEq, Eq)]

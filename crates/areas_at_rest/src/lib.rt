@@ -4,4 +4,4 @@
 mod areas;
 
 pub use areas::{count_lines, view_of};
-pub use lines_at_rest;
+pub use lines_at_rest::{AreaLines, FaultyPages, RestReading, read_area};

@@ -11,8 +11,8 @@ ghost use Rattle.journal_reading.specs.Journal.{EndsBy};
 ghost use Rattle.stable_lines.specs.Slots.{ruj_file as ruj_named};
 ghost use Rattle.before_images.specs.Before.{IsEntryOf, HoldsBefore};
 
+use line_moves::ruj_file;
 use line_opening::OpeningFault;
-use line_opening::line_moves::ruj_file;
 use ordered_entries::Entries;
 use rdb_outside::Disk;
 use rdb_types::{Dbkey, Line, Tsn};

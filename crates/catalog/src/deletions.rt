@@ -12,9 +12,7 @@ use crate::Catalog;
 use crate::directory::PlacedLine;
 use crate::schema::area_named;
 use catalog_lines::CatalogLine;
-use rdb_definitions::rdb_checks::Stop;
-use rdb_definitions::rdb_meaning::same_name;
-use rdb_definitions::{check_index_exists, check_relation_exists};
+use rdb_definitions::{Stop, check_index_exists, check_relation_exists, same_name};
 use rdb_types::{Chars, Keys, NoMemory};
 use std::alloc::Global;
 

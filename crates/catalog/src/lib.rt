@@ -6,9 +6,8 @@ mod directory;
 mod reading;
 mod schema;
 
-pub use catalog_lines;
 pub use deletions::{delete_index, delete_relation};
 pub use directory::{Directory, FieldPlace, LogicalArea, PlacedField, PlacedLine};
-pub use rdb_definitions::row_sizes;
+pub use rdb_definitions::longest_value;
 pub use reading::{Catalog, bad_is_no_catalog, one_catalog, read_catalog};
 pub use schema::things_differ;

@@ -7,7 +7,7 @@ use crate::directory::{PlacedLine, directory_of};
 use crate::schema::{misfit, tables_of};
 use catalog_lines::{CatalogLine, read_catalog_line};
 use line_view::{Need, Never, Seen, Stop, View};
-use rdb_definitions::rdb_meaning::Tables;
+use rdb_definitions::Tables;
 use rdb_types::{Dbkey, Items};
 use std::alloc::Global;
 

@@ -14,7 +14,7 @@ ghost use Rattle.rdb_definitions.specs.rdb_meaning.Contents.{no_tables};
 use crate::directory::{Directory, PlacedLine};
 use catalog_lines::{CatalogLine, FieldLine, GlobalLine, IndexLine, RelationLine};
 use ordered_entries::Entries;
-use rdb_definitions::rdb_meaning::{Index, Relation, Tables, same_name};
+use rdb_definitions::{Index, Relation, Tables, same_name};
 use rdb_types::{Chars, Copied, Dbkey, Field, Fields, NoMemory};
 use std::alloc::Global;
 

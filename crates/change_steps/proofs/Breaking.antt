@@ -20,8 +20,8 @@ use Rattle.disk_seats.specs.Members.{MayEnd, LedgerFacts}
 use Rattle.disk_seats.proofs.MemberCalls.{broken_behind}
 use Rattle.stable_lines.specs.Slots.{ruj_file}
 use Rattle.line_moves.specs.Calls.{OnlyWrites}
-use Rattle.disk_store.specs.ledger_versions.Readers.{ReaderFacts}
-use Rattle.disk_store.proofs.of_ledger_versions.Restanding.{restands, keeps_others}
+use Rattle.ledger_versions.specs.Readers.{ReaderFacts}
+use Rattle.ledger_versions.proofs.Restanding.{restands, keeps_others}
 use Rattle.member_memory.specs.Memory.{writes_in}
 use Rattle.disk_store.specs.declared.member.Member.{Member}
 use Rattle.disk_store.specs.declared.member.MemberStage.TheVariants as stage

@@ -12,9 +12,9 @@ use Rattle.line_store.specs.Calls.{IsDone}
 use Rattle.line_store.specs.Sights.{seat_or, Does}
 use Rattle.line_moves.specs.Lines.{ChangedLines}
 use Rattle.disk_seats.specs.Ledgers.{changing, Ledger}
-use Rattle.disk_store.specs.ledger_versions.Readers.{AreAlike, HasVersionOf, ReaderFacts, set_waiting}
-use Rattle.disk_store.proofs.of_ledger_versions.LinesJoin.{lines_alike}
-use Rattle.disk_store.proofs.of_ledger_versions.Restanding.{same_ledger}
+use Rattle.ledger_versions.specs.Readers.{AreAlike, HasVersionOf, ReaderFacts, set_waiting}
+use Rattle.ledger_versions.proofs.LinesJoin.{lines_alike}
+use Rattle.ledger_versions.proofs.Restanding.{same_ledger}
 use Rattle.member_memory.specs.Memory.{Memory, AreKeysOf, writes_in}
 use Rattle.disk_store.specs.declared.member.Member.{Member}
 use Rattle.disk_store.specs.declared.member.MemberStage.TheVariants as stage

@@ -25,8 +25,8 @@ use Rattle.stable_lines.specs.Progress.{Open}
 use Rattle.line_moves.specs.Calls.{OnlyWrites}
 use Rattle.disk_seats.specs.Ledgers.{Standing, broken, changing, Ledger, stands_as}
 use Rattle.disk_seats.specs.Members.{IsChanging, LedgerFacts, IsLeftTo, MemberStands}
-use Rattle.disk_store.specs.ledger_versions.Readers.{set_waiting}
-use Rattle.disk_store.proofs.of_ledger_versions.LinesJoin.{line_journalled}
+use Rattle.ledger_versions.specs.Readers.{set_waiting}
+use Rattle.ledger_versions.proofs.LinesJoin.{line_journalled}
 use Rattle.member_memory.proofs.Growing.{get-more, length-more}
 use Rattle.disk_store.specs.declared.member.Member.{Member}
 use Rattle.disk_store.specs.declared.member.MemberStage.TheVariants as stage

@@ -18,7 +18,7 @@ use Rattle.disk_seats.specs.Ledgers.{Standing, resting, changing, broken, commit
 use Rattle.disk_seats.specs.Members.{MemberStands, HasOpen, IsChanging, LedgerFacts, IsLeftTo}
 use Rattle.disk_seats.proofs.Standings.{no_entry}
 use Rattle.disk_seats.proofs.Progresses.{same_going}
-use Rattle.disk_store.specs.ledger_versions.Readers.{ReaderFacts, Waiting}
+use Rattle.ledger_versions.specs.Readers.{ReaderFacts, Waiting}
 use Rattle.member_memory.proofs.Growing.{has-it}
 use Rattle.disk_store.specs.declared.member.Member.{Member}
 use Rattle.disk_store.specs.declared.member.MemberStage.{MemberStage}

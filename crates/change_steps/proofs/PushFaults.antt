@@ -19,8 +19,8 @@ use Rattle.version_writing.specs.declared.snapshot_slots.SnapshotSlots.{Snapshot
 use Rattle.version_writing.proofs.Held.{holds_moved}
 use Rattle.disk_seats.specs.Ledgers.{broken, stands_as}
 use Rattle.disk_seats.specs.Members.{LedgerFacts}
-use Rattle.disk_store.specs.ledger_versions.Readers.{ReaderFacts}
-use Rattle.disk_store.proofs.of_ledger_versions.Written.{still_reads, still_slot}
+use Rattle.ledger_versions.specs.Readers.{ReaderFacts}
+use Rattle.ledger_versions.proofs.Written.{still_reads, still_slot}
 use Rattle.disk_store.specs.declared.member.Member.{Member}
 use Rattle.disk_store.specs.declared.member.MemberStage.TheVariants as stage
 use Rattle.disk_store.specs.ChangeSteps.{TakesAside, broken_off}

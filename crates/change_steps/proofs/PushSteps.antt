@@ -24,9 +24,9 @@ use Rattle.version_writing.specs.Slots.{IsAside}
 use Rattle.version_writing.specs.Tables.{HoldsAll}
 use Rattle.disk_seats.specs.Ledgers.{changing, entries_of, Ledger, Standing}
 use Rattle.disk_seats.specs.Members.{IsLeftTo, LedgerFacts}
-use Rattle.disk_store.specs.ledger_versions.Readers.{HasBefore, ReaderFacts, set_waiting}
-use Rattle.disk_store.proofs.of_ledger_versions.LinesJoin.{line_first, line_joins}
-use Rattle.disk_store.proofs.of_ledger_versions.Restanding.{same_ledger}
+use Rattle.ledger_versions.specs.Readers.{HasBefore, ReaderFacts, set_waiting}
+use Rattle.ledger_versions.proofs.LinesJoin.{line_first, line_joins}
+use Rattle.ledger_versions.proofs.Restanding.{same_ledger}
 use Rattle.member_memory.specs.Memory.{writes_in}
 use Rattle.member_steps.proofs.Journals.{read_ledger}
 use Rattle.disk_store.specs.declared.member.Member.{Member}

@@ -12,7 +12,7 @@ use Rattle.rdb_types.specs.Order.{dbkey_order}
 use Rattle.rdb_types.specs.OrderLaws.{dbkey_total, same_dbkey}
 use Rattle.line_moves.specs.Lines.{ChangedLines, HasLine}
 use Rattle.disk_versions.specs.Versions.{PutsIn, IsNoneOfThem}
-use Rattle.disk_store.specs.ledger_versions.Readers.{HasVersionOf}
+use Rattle.ledger_versions.specs.Readers.{HasVersionOf}
 use Rattle.member_memory.specs.Memory.{Memory}
 use Rattle.member_memory.proofs.Growing.{tied}
 use Rattle.disk_store.specs.ChangeSteps.{rechained}

@@ -1,2 +1,1 @@
 pub use Rattle.disk_store.specs as disk_store
-pub use Rattle.disk_store.specs.store_shows as store_shows

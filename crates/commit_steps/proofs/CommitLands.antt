@@ -22,7 +22,7 @@ use Rattle.disk_versions.specs.Courses.{course_landed}
 use Rattle.member_steps.specs.declared.committing.CommitTurn.{CommitTurn}
 use Rattle.member_steps.specs.declared.committing.CommitTurn.TheVariants.{Going}
 use Rattle.member_steps.specs.Turns.{Plan, commit_of_plan}
-use Rattle.disk_store.specs.ledger_versions.Readers.{set_waiting}
+use Rattle.ledger_versions.specs.Readers.{set_waiting}
 use Rattle.reader_turns.proofs.TurnSteps.{turn_lands}
 use Rattle.member_memory.specs.Memory.{writes_in}
 use Rattle.disk_store.specs.declared.member.Member.{Member}

@@ -28,8 +28,8 @@ use Rattle.disk_seats.specs.Members.{CommitStands, IsOneArea}
 use Rattle.member_steps.specs.declared.committing.CommitTurn.{CommitTurn}
 use Rattle.member_steps.specs.Turns.{Plan, MayCommit, plan_of, commit_of_plan}
 use Rattle.page_table.specs.Pages.{owner_in, IsWithin}
-use Rattle.disk_store.specs.ledger_versions.Readers.{HasBefore, HasLines}
-use Rattle.disk_store.specs.store_shows.Shows.{IsInFlight}
+use Rattle.ledger_versions.specs.Readers.{HasBefore, HasLines}
+use Rattle.store_shows.specs.Shows.{IsInFlight}
 use Rattle.member_memory.specs.Memory.{AreKeysOf, writes_in}
 use Rattle.disk_store.specs.declared.member.Member.{Member}
 use Rattle.disk_store.specs.declared.member.MemberStage.{MemberStage}

@@ -17,7 +17,7 @@ use Rattle.member_steps.specs.declared.committing.CommitTurn.{CommitTurn}
 use Rattle.member_steps.specs.declared.committing.CommitTurn.TheVariants.{Entering, Securing, Going}
 use Rattle.member_steps.specs.Turns.{Plan, TurnFacts, commit_of_plan, ledger_behind, ledger_held}
 use Rattle.member_steps.proofs.ClassesHad.{classes_had}
-use Rattle.disk_store.specs.ledger_versions.Readers.{ReaderFacts}
+use Rattle.ledger_versions.specs.Readers.{ReaderFacts}
 use Rattle.reader_turns.proofs.TurnSteps.{turn_held, turn_further}
 use Rattle.member_memory.specs.Memory.{writes_in}
 use Rattle.disk_store.specs.declared.member.Member.{Member}

@@ -22,7 +22,7 @@ use Rattle.member_steps.specs.Turns.{Plan, commit_of_plan}
 use Rattle.committed_tables.specs.Tables.{HasCommitted}
 use Rattle.version_writing.specs.Tables.{HoldsAll}
 use Rattle.version_writing.specs.declared.snapshot_slots.SnapshotSlots.{SnapshotSlots}
-use Rattle.disk_store.specs.ledger_versions.Readers.{ReaderFacts, Waiting}
+use Rattle.ledger_versions.specs.Readers.{ReaderFacts, Waiting}
 use Rattle.line_versions.specs.Course.{Course}
 use Rattle.member_memory.specs.Memory.{writes_in}
 use Rattle.disk_store.specs.declared.member.Member.{Member}

@@ -13,11 +13,11 @@ use Rattle.area_files.specs.Areas.{IsDataPage, space_page_of}
 use Rattle.new_database.specs.Maker.{root_file}
 use Rattle.line_view.specs.Knowledge.{line_in}
 use Rattle.line_versions.specs.Lines.{shown, shown_as, storage_area}
-use Rattle.page_table.specs.stable_lines.Slots.{area_file, ruj_file, file_of, slot_of, has_place, line_on, line_at, IsAreaFile}
-use Rattle.page_table.specs.stable_lines.Kept.{IsWellFormed}
-use Rattle.page_table.specs.stable_lines.Progress.{Progress}
-use Rattle.page_table.specs.stable_lines.Facts.{Facts}
-use Rattle.page_table.proofs.of_stable_lines.Never.{space_owner}
+use Rattle.stable_lines.specs.Slots.{area_file, ruj_file, file_of, slot_of, has_place, line_on, line_at, IsAreaFile}
+use Rattle.stable_lines.specs.Kept.{IsWellFormed}
+use Rattle.stable_lines.specs.Progress.{Progress}
+use Rattle.stable_lines.specs.Facts.{Facts}
+use Rattle.stable_lines.proofs.Never.{space_owner}
 use Rattle.page_table.specs.line_moves.Changes.{IsPlaceOf}
 use Rattle.page_table.proofs.of_line_moves.KeyPlaces.{file_is, area_is}
 use Rattle.page_table.proofs.of_line_moves.OnlyPut.{some_page}

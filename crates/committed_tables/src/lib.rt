@@ -7,4 +7,4 @@ pub use laws::{
     a_table_begins, a_table_follows_commits, a_table_keeps_used_lines, rooms_are_free,
     used_lines_are_committed, used_lines_are_passed,
 };
-pub use page_table;
+pub use page_table::{PageTable, Sought};

@@ -3,7 +3,7 @@ use Rattle.std.proofs.Common.{◌≡◌, ℕ, List, map, Option, IsTrue, ◌⊎�
 use Rattle.rdb_outside.specs.Disk.{View, Pending, IsStable, OnlyReads}
 use Rattle.root_file.specs.declared.Root.{Root}
 use Rattle.root_file.proofs.Readings.{one_root}
-use Rattle.line_opening.specs.new_database.Maker.{root_file}
+use Rattle.new_database.specs.Maker.{root_file}
 use Rattle.line_view.specs.Knowledge.{Lines}
 use Rattle.line_opening.specs.stable_lines.Journal.{Journal}
 use Rattle.line_opening.specs.stable_lines.Kept.{Kept}

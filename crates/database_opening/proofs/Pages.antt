@@ -4,7 +4,7 @@ use Rattle.rdb_types.specs.declared.file.FileId.{FileId}
 use Rattle.rdb_types.specs.declared.file.FileKind.TheVariants.{Root, Area, Ruj}
 use Rattle.rdb_outside.specs.Disk.{Image, View, LeftNow, Pending, IsStable, OnlyReads}
 use Rattle.area_files.specs.Areas.{IsDataPage}
-use Rattle.line_opening.specs.new_database.Maker.{root_file}
+use Rattle.new_database.specs.Maker.{root_file}
 use Rattle.line_opening.specs.stable_lines.Slots.{area_file, ruj_file}
 use Rattle.line_opening.specs.line_moves.Calls.{OnlyWrites}
 use Rattle.line_opening.specs.line_moves.Classes.{HasItsClass, HaveTheirClasses, IsClassed}

@@ -2,7 +2,7 @@
 use Rattle.std.specs.Prelude.{ℕ, ◌-◌, ◌≡◌}
 use Rattle.rdb_outside.specs.Disk.{Image}
 use Rattle.area_files.specs.Areas.{IsPage, IsSpacePage}
-use Rattle.line_opening.specs.new_database.Maker.{root_file}
+use Rattle.new_database.specs.Maker.{root_file}
 use Rattle.line_opening.specs.stable_lines.Slots.{area_file}
 
 -- The root is as it was, and so is each space page: each page is whose it was.

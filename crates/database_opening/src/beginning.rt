@@ -4,7 +4,7 @@ ghost use Rattle.rdb_types.specs.declared.file.FileId.{FileId as File};
 ghost use Rattle.rdb_outside.specs.Causes.{Rose};
 ghost use Rattle.rdb_outside.specs.Disk.{OnlyReads, IsStable};
 ghost use Rattle.root_file.specs.Root.{IsRoot, IsAllowed};
-ghost use Rattle.line_opening.specs.new_database.Maker.{root_file as root_named};
+ghost use Rattle.new_database.specs.Maker.{root_file as root_named};
 ghost use Rattle.line_view.specs.Knowledge.{Lines};
 ghost use Rattle.line_opening.specs.stable_lines.Journal.{Journal};
 ghost use Rattle.line_opening.specs.stable_lines.Kept.{Kept};
@@ -14,9 +14,8 @@ ghost use Rattle.database_opening.specs.declared.stages.OpeningStage.TheVariants
 
 use crate::reading::{count_all, opened_root};
 use crate::stages::{Found, Opening, OpeningStage};
-use line_opening::line_moves::make_stable;
-use line_opening::line_store::Fault;
-use line_opening::{all_named, find_open};
+use line_opening::{all_named, find_open, make_stable};
+use line_store::Fault;
 use rdb_outside::Disk;
 
 // Whether no header names a transaction.

@@ -12,8 +12,7 @@ mod whole;
 
 pub use beginning::begin;
 pub use laws::{a_history_begins, the_content_stands};
-pub use line_opening;
-pub use line_opening::line_moves;
+pub use line_opening::{OpeningFault, area_file};
 pub use owners::read_owners;
 pub use reading::opened_root;
 pub use stages::{Found, Opening, OpeningStage};

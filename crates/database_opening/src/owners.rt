@@ -9,8 +9,7 @@ ghost use Rattle.line_opening.specs.stable_lines.Slots.{area_file as area_named,
 ghost use Rattle.database_opening.specs.Owners.{AreOwners};
 
 use area_files::{is_space_page, slot_of};
-use line_opening::OpeningFault;
-use line_opening::line_moves::area_file;
+use line_opening::{OpeningFault, area_file};
 use rdb_outside::Disk;
 use space_pages::{check, owner};
 use std::alloc::Global;

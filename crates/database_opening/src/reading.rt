@@ -4,13 +4,12 @@ ghost use Rattle.rdb_types.specs.declared.file.FileId.{FileId as File};
 ghost use Rattle.rdb_outside.specs.Causes.{Rose};
 ghost use Rattle.rdb_outside.specs.Disk.{OnlyReads};
 ghost use Rattle.root_file.specs.Root.{IsAllowed};
-ghost use Rattle.line_opening.specs.new_database.Maker.{root_file as root_named};
+ghost use Rattle.new_database.specs.Maker.{root_file as root_named};
 ghost use Rattle.line_opening.specs.Counting.{HasCount};
 ghost use Rattle.database_opening.specs.Reading.{IsOpenedRoot, AreCounted};
 
-use line_opening::count_entries;
-use line_opening::line_moves::root_file;
-use line_opening::line_store::Fault;
+use line_opening::{count_entries, root_file};
+use line_store::Fault;
 use rdb_outside::{Disk, Failed};
 use rdb_types::Tsn;
 use root_file::{Root, read_root};

@@ -14,9 +14,8 @@ ghost use Rattle.database_opening.specs.Stages.{OpeningFacts, IsStage, steps_lef
 ghost use Rattle.database_opening.specs.Untouched.{KeepsRootAndSpaces};
 
 use crate::stages::{Found, OpeningStage};
-use line_opening::line_moves::make_stable;
-use line_opening::line_store::Fault;
-use line_opening::{close_next, undo_next};
+use line_opening::{close_next, make_stable, undo_next};
+use line_store::Fault;
 use rdb_outside::Disk;
 use rdb_types::Tsn;
 

@@ -4,7 +4,7 @@ ghost use Rattle.rdb_types.specs.declared.file.FileId.{FileId as File};
 ghost use Rattle.rdb_outside.specs.Causes.{Rose};
 ghost use Rattle.rdb_outside.specs.Disk.{LeavesOnly, IsPending};
 ghost use Rattle.root_file.specs.Root.{IsRoot, IsAllowed};
-ghost use Rattle.line_opening.specs.new_database.Maker.{root_file as root_named};
+ghost use Rattle.new_database.specs.Maker.{root_file as root_named};
 ghost use Rattle.line_view.specs.Knowledge.{Lines};
 ghost use Rattle.line_opening.specs.stable_lines.Journal.{Journal};
 ghost use Rattle.line_opening.specs.stable_lines.Kept.{Kept};
@@ -18,7 +18,7 @@ use crate::beginning::begin;
 use crate::stages::OpeningStage;
 use crate::start::{StoreStart, start_of};
 use crate::steps::step;
-use line_opening::line_store::Fault;
+use line_store::Fault;
 use rdb_outside::Disk;
 
 // Whether an opening is at its end.

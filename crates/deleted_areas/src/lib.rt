@@ -4,5 +4,6 @@
 mod laws;
 
 pub use laws::deletions_keep_to_what_they_name;
-pub use schema_writes;
-pub use stored_schema;
+pub use schema_writes::{
+    SchemaRefusal, SchemaStop, define_field, define_relation, delete_index, delete_relation,
+};

@@ -4,7 +4,7 @@ use Rattle.rdb_outside.specs.Disk.{View}
 use Rattle.line_view.specs.Knowledge.{Lines}
 use Rattle.line_store.specs.Shelves.{Shelf}
 use Rattle.line_store.specs.Sights.{Sight}
-use Rattle.change_steps.specs.store_shows.Shows.{AllOpen, Leaves}
+use Rattle.store_shows.specs.Shows.{AllOpen, Leaves}
 use Rattle.change_steps.specs.disk_store.Memory.{StoreMemory}
 use Rattle.change_steps.specs.disk_store.Seats.{stand_at}
 use Rattle.change_steps.specs.disk_store.Shown.{Shown}

@@ -6,8 +6,7 @@ ghost use Rattle.line_store.specs.Sights.{Does, Steps, stepped_to, MayAnswer, Is
 ghost use Rattle.change_steps.specs.disk_store.Seats.{stand_at, IsAtStage};
 ghost use Rattle.change_steps.specs.disk_store.Shown.{sight_of};
 
-use change_steps::disk_store::{Ceiling, Held, MemberStage, ask, draw};
-use change_steps::{broken_step, change_step};
+use change_steps::{Ceiling, Held, MemberStage, ask, broken_step, change_step, draw};
 use commit_steps::commit_step;
 use line_store::{Fault, Stepped};
 use rdb_outside::Disk;

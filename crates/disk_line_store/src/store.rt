@@ -3,14 +3,14 @@ ghost use Rattle.std.specs.Prelude.{◌≡◌, ◌↔◌, ◌<◌, ◌^◌, ℕ}
 ghost use Rattle.line_view.specs.Knowledge.{Lines};
 ghost use Rattle.line_store.specs.Seats.{outside};
 ghost use Rattle.line_store.specs.Shelves.{Shelf};
-ghost use Rattle.change_steps.specs.store_shows.Shows.{Leaves};
+ghost use Rattle.store_shows.specs.Shows.{Leaves};
 ghost use Rattle.change_steps.specs.disk_store.Seats.{stand_at, steps_at};
 ghost use Rattle.change_steps.specs.disk_store.Shown.{Shown};
 ghost use Rattle.disk_line_store.specs.Back.{IsBack};
 
 use crate::stepping::step;
 use area_files::AreaFull;
-use change_steps::disk_store::{
+use change_steps::{
     Held, begin, begin_reading, change, commit, give_back, learn_area, learn_line, prepare, room,
     steps_are_few, take_room,
 };

@@ -4,7 +4,7 @@ ghost use Rattle.rdb_outside.specs.Disk.{Counts, IsStable, OnlyReads};
 ghost use Rattle.disk_seats.specs.Ledgers.{Ledger, all_stable};
 ghost use Rattle.disk_seats.specs.Members.{LedgerFacts};
 
-use line_opening::line_moves::make_stable;
+use line_opening::make_stable;
 use rdb_outside::{Disk, Failed};
 
 /// Makes all that was written stable, whoever wrote it.

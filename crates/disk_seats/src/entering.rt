@@ -14,7 +14,7 @@ ghost use Rattle.line_opening.specs.line_moves.Lines.{ChangedLines};
 ghost use Rattle.disk_seats.specs.Ledgers.{Ledger};
 ghost use Rattle.disk_seats.specs.Members.{LedgerFacts, AreOwned, IsOneArea};
 
-use line_opening::line_moves::{Place, enter_page};
+use line_opening::{Place, enter_page};
 use line_store::Fault;
 use rdb_outside::Disk;
 

@@ -7,7 +7,7 @@ ghost use Rattle.line_opening.specs.line_moves.Calls.{OnlyWrites};
 ghost use Rattle.disk_seats.specs.Ledgers.{Ledger, resting, changing};
 ghost use Rattle.disk_seats.specs.Members.{LedgerFacts};
 
-use line_opening::line_moves::{close_header, open_header};
+use line_opening::{close_header, open_header};
 use rdb_outside::{Disk, Failed};
 use rdb_types::Tsn;
 

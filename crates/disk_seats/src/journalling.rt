@@ -11,7 +11,7 @@ ghost use Rattle.line_opening.specs.line_moves.Changes.{IsPlaceOf};
 ghost use Rattle.disk_seats.specs.Ledgers.{Ledger, changing, broken, stands_as};
 ghost use Rattle.disk_seats.specs.Members.{LedgerFacts, IsLeftTo};
 
-use line_opening::line_moves::Place;
+use line_opening::Place;
 use line_seat::journal_line;
 use line_store::Fault;
 use rdb_outside::Disk;

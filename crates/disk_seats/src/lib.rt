@@ -21,8 +21,7 @@ pub use laws::{
     a_commit_begins, a_commit_of_nothing, a_ledger_begins, a_member_begins, a_member_ends,
     pages_are_entered,
 };
-pub use line_opening;
-pub use line_opening::line_moves;
-pub use line_seat;
+pub use line_opening::{Place, aij_file, make_stable, named_by, place_of, root_file, write_root};
+pub use line_seat::{CommitStage, GroupPlace};
 pub use roots::raise_ceiling;
 pub use undoing::undo;

@@ -7,7 +7,7 @@ ghost use Rattle.line_opening.specs.line_moves.Calls.{OnlyWrites};
 ghost use Rattle.disk_seats.specs.Ledgers.{Ledger};
 ghost use Rattle.disk_seats.specs.Members.{LedgerFacts};
 
-use line_opening::line_moves::write_root;
+use line_opening::write_root;
 use rdb_outside::{Disk, Failed};
 use root_file::Root;
 

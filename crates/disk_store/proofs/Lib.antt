@@ -1,5 +1,4 @@
 pub use Rattle.ledger_versions.proofs as of_ledger_versions
-pub use Rattle.member_rooms.proofs.of_store_shows as of_store_shows
 pub mod Members
 pub mod AtMost
 pub mod Sound

@@ -1,5 +1,4 @@
 pub use Rattle.ledger_versions.specs as ledger_versions
-pub use Rattle.member_rooms.specs.store_shows as store_shows
 pub mod Memory
 pub mod Numbers
 pub mod Seats

@@ -3,9 +3,9 @@ ghost use Rattle.std.specs.Prelude.{◌≡◌, true, false, Some, None};
 ghost use Rattle.disk_store.specs.BeforeImages.{its_own, seen_of};
 
 use crate::{Member, MemberStage, Recovery};
-use member_rooms::member_steps::CommitTurn;
+use member_rooms::CommitTurn;
 use rdb_types::{Dbkey, Tsn};
-use reader_lines::committed_lines::HasBeforeImages;
+use reader_lines::HasBeforeImages;
 
 impl Member {
     // Whether before-images of its transaction stand, and lines may bear its number.

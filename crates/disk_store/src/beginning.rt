@@ -15,10 +15,10 @@ ghost use Rattle.disk_store.specs.Seats.{stand_at, IsAtStage};
 ghost use Rattle.disk_store.specs.Shown.{Shown, sight_of};
 
 use crate::{Ceiling, Held, Member, MemberStage};
-use ledger_versions::disk_seats::{raise_ceiling, settle};
+use ledger_versions::{raise_ceiling, settle};
 use line_moves::root_file;
 use line_store::{Fault, Stepped};
-use member_rooms::member_steps::NUMBERS;
+use member_rooms::NUMBERS;
 use rdb_outside::Disk;
 use rdb_types::Session;
 use root_file::Root;

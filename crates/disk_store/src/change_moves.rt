@@ -18,7 +18,7 @@ use line_moves::Place;
 use line_store::Fault;
 use rdb_outside::Disk;
 use rdb_types::{Dbkey, Session};
-use reader_lines::version_writing::{Wanted, push_aside};
+use reader_lines::{Wanted, push_aside};
 
 // What is left of the slots that are set aside, where a line of this file has a chain now.
 fn spend(aside: Wanted, file: u32, chain: u32) -> Wanted

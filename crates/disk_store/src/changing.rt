@@ -19,11 +19,11 @@ use line_moves::place_of;
 use line_store::ChangeStop;
 use line_view::Write;
 use member_memory::{AddStop, MemberLines};
-use member_rooms::page_table::PageTable;
+use member_rooms::PageTable;
 use rdb_outside::Disk;
 use rdb_page::lines_of;
 use rdb_types::{Dbkey, Image, Session, Tsn};
-use reader_lines::version_writing::{SnapshotSlots, Wanted};
+use reader_lines::{SnapshotSlots, Wanted};
 
 fn image_size(image: &Option<Image>) -> usize
     ensures { result ≡ size_of image.now }

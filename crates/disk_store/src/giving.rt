@@ -7,7 +7,7 @@ ghost use Rattle.disk_store.specs.Seats.{IsAtStage};
 
 use crate::{Held, Member, MemberStage};
 use rdb_types::{Session, Tsn};
-use reader_lines::version_writing::{MayWant, SnapshotSlots, Wanted, is_wanted};
+use reader_lines::{MayWant, SnapshotSlots, Wanted, is_wanted};
 
 impl MayWant for Member {
     ghost use Rattle.disk_store.specs.Giving.{IsUnwantedBy};

@@ -14,10 +14,9 @@ ghost use Rattle.disk_store.specs.Sound.{IsSound};
 use crate::{Member, MemberStage};
 use line_opening::NextGroup;
 use member_memory::MemberLines;
-use member_rooms::member_steps::CommitTurn;
-use member_rooms::page_table::PageTable;
+use member_rooms::{CommitTurn, PageTable};
 use rdb_types::{Limits, Session, Tsn};
-use reader_lines::version_writing::SnapshotSlots;
+use reader_lines::SnapshotSlots;
 use std::alloc::Global;
 use std::marker::Model;
 

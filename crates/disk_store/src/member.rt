@@ -1,8 +1,8 @@
 // What is kept in memory of a session.
 use member_memory::MemberLines;
-use member_rooms::member_steps::CommitTurn;
+use member_rooms::CommitTurn;
 use rdb_types::Tsn;
-use reader_lines::version_writing::Wanted;
+use reader_lines::Wanted;
 use version_reading::Reader;
 
 /// What is left of the recovery of a session that died.

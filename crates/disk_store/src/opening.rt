@@ -7,7 +7,7 @@ use crate::{Held, Member, MemberStage, Numbers, Tables};
 use line_opening::NextGroup;
 use member_memory::MemberLines;
 use rdb_types::{Limits, NoMemory, Tsn};
-use reader_lines::version_writing::{SnapshotSlots, Wanted};
+use reader_lines::{SnapshotSlots, Wanted};
 use std::alloc::Global;
 use version_reading::Reader;
 

@@ -18,8 +18,7 @@ ghost use Rattle.disk_store.specs.Taken.{TakesIn};
 use crate::Held;
 use area_files::{AreaFull, storage_area};
 use member_memory::MemberLines;
-use member_rooms::page_table::PageTable;
-use member_rooms::{class_of, is_new, next_room};
+use member_rooms::{PageTable, class_of, is_new, next_room};
 use rdb_outside::Disk;
 use rdb_types::{Dbkey, NoMemory, Session};
 

@@ -13,7 +13,7 @@ ghost use Rattle.disk_store.specs.Seats.{IsAtStage, stand_at};
 ghost use Rattle.disk_store.specs.Shown.{sight_of};
 
 use crate::{Held, Member, MemberStage, Recovery};
-use member_rooms::member_steps::CommitTurn;
+use member_rooms::CommitTurn;
 use rdb_outside::Disk;
 use rdb_types::{NoMemory, Session, Tsn};
 use std::alloc::Global;

@@ -1,4 +1,3 @@
-pub use Rattle.line_opening.proofs.of_line_moves as of_line_moves
 pub mod Choices
 pub mod Moves
 pub mod Beginnings

@@ -7,7 +7,6 @@ mod seats;
 mod transactions;
 
 pub use calls::{calls_keep_the_versions, slots_are_given_back, versions_are_found};
-pub use line_opening::line_moves;
 pub use readers::{readers_come_and_go, readers_see_their_lines};
 pub use seats::{a_line_is_pushed, a_line_waits, lines_wait_on, lines_wait_through_steps};
 pub use transactions::transactions_keep_the_versions;

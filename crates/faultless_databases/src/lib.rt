@@ -8,4 +8,4 @@ pub use laws::{
     no_node_is_at_fault, no_owner_differs, no_page_fails, no_row_is_at_fault,
     sound_lines_have_no_fault,
 };
-pub use rmu_verify;
+pub use rmu_verify::verify;

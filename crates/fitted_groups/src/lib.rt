@@ -7,4 +7,4 @@ mod lines;
 
 pub use claims::{PageClaim, page_claims};
 pub use journals::{Fitted, fit_journal};
-pub use laid_groups;
+pub use laid_groups::{Reached, lay_journal, pass_journal};

@@ -7,7 +7,7 @@ use Rattle.line_view.specs.declared.need.Need.{Need}
 use Rattle.line_view.specs.Held.{Held}
 use Rattle.line_store.specs.Shelves.{Shelf}
 use Rattle.line_store.specs.Calls.{Moves}
-use Rattle.stage_steps.proofs.of_store_counts.Kept.{counted-same}
+use Rattle.store_counts.proofs.Kept.{counted-same}
 use Rattle.session_jobs.specs.Records.{Model, IsOrderly}
 use Rattle.stepped_jobs.specs.More.{KnowsMore}
 use Rattle.stage_steps.specs.session_states.declared.stage.Gather.TheVariants.{Locking, Reading}

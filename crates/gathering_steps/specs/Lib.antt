@@ -1,4 +1,3 @@
-pub use Rattle.stage_steps.specs.line_steps as line_steps
 pub use Rattle.stage_steps.specs.session_measure as session_measure
 pub use Rattle.stage_steps.specs.session_stands as session_stands
 pub use Rattle.stage_steps.specs.session_states as session_states

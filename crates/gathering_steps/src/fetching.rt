@@ -14,8 +14,7 @@ use line_view::Need;
 use rdb_types::Session;
 use rdo_ast::syntax::Item;
 use session_jobs::{Needs, Statements};
-use stage_steps::session_states::{Gather, Phase, Stage, Work};
-use stage_steps::{Common, Terms, Turned, failed, forgo, quiet};
+use stage_steps::{Common, Gather, Phase, Stage, Terms, Turned, Work, failed, forgo, quiet};
 use stepped_jobs::fetch;
 
 /// What a job lacked is wanted: this need first, and then those behind it.

@@ -4,7 +4,7 @@ ghost use Rattle.std.specs.Prelude.{◌≡◌, ◌+◌, Some, slice_get, MatchOp
 use line_view::Need;
 use rdo_ast::syntax::Item;
 use session_jobs::Needs;
-use stage_steps::session_states::{Gather, Stage, Work};
+use stage_steps::{Gather, Stage, Work};
 
 /// A statement whose needs are read in turn: those behind the one that is wanted or read, of which those before the place are done.
 #[derive(Drop)]

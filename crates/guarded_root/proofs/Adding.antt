@@ -4,7 +4,7 @@ use Rattle.std.proofs.Common.{inl, inr, ⊎_elim}
 use Rattle.rdb_types.specs.declared.file.FileId.{FileId}
 use Rattle.rdb_outside.specs.Disk.{Image, View, Pending, Counts, Keeps, Adds, IsPending, OnlyReads}
 use Rattle.rdb_outside.specs.Moments.{each_slot, started, goes_on, weaker}
-use Rattle.database_opening.proofs.of_line_moves.Runs.{reads_once}
+use Rattle.line_moves.proofs.Runs.{reads_once}
 use Rattle.database_opening.proofs.of_line_opening.Standing.{leaves_on}
 use Rattle.guarded_root.specs.Guarded.{IsWrite, IsPendingOr, AddsOnly}
 

@@ -5,7 +5,7 @@ use Rattle.rdb_types.specs.declared.file.FileId.{FileId}
 use Rattle.rdb_outside.specs.Disk.{View, Counts, Keeps, Puts, Adds, SameContent, IsPending, OnlyReads, zeros}
 use Rattle.rdb_outside.specs.Moments.{started, goes_on, weaker}
 use Rattle.new_database.specs.Maker.{root_file}
-use Rattle.database_opening.proofs.of_line_moves.Runs.{reads_once, writes_now, still_tells}
+use Rattle.line_moves.proofs.Runs.{reads_once, writes_now, still_tells}
 use Rattle.database_opening.proofs.of_line_opening.Standing.{leaves_on}
 use Rattle.database_opening.specs.Others.{KeepsFile}
 use Rattle.database_opening.proofs.Others.{file_read, file_unused, file_apart, file_on}

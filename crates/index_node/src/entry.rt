@@ -6,9 +6,10 @@ ghost use Rattle.record_format.specs.Values.{values_fields, IsValue};
 ghost use Rattle.record_format.specs.Lists.{StandsAt};
 ghost use Rattle.index_node.specs.Node.{child_fields, child_bytes, entry_fields, IsEntry};
 
-use record_format::rdb_types::{Dbkey, NoMemory, Row};
-use record_format::slot_fields::{put_u8, u8_at};
-use record_format::{are_storable, dbkey_at, put_dbkey, put_values, read_values, values_size};
+use record_format::{
+    Dbkey, NoMemory, Row, are_storable, dbkey_at, put_dbkey, put_u8, put_values, read_values,
+    u8_at, values_size,
+};
 use std::alloc::Global;
 
 /// An entry of a node: a key, the Dbkey of a row that has it, and in an inner node the Dbkey of a child, whose entries are not below this one.

@@ -10,5 +10,4 @@ pub use node::{
     IndexNode, entries_size, is_allowed_node, one_image, one_node, put_node, read_node,
 };
 pub use order::{entries_are_ordered, entry_order};
-pub use record_format;
-pub use record_format::rdb_types;
+pub use record_format::{VersionedRow, read_row};

@@ -10,9 +10,9 @@ ghost use Rattle.index_node.specs.Node.{entry_fields, node_fields, IsEntry, IsAs
 
 use crate::entry::{NodeEntry, entry_at, entry_size, is_entry, put_entry};
 use crate::order::entry_order;
-use record_format::TooLong;
-use record_format::rdb_types::{Image, Items, NoMemory};
-use record_format::slot_fields::{has_zeros, put_u8, put_u16, put_zeros, u8_at, u16_at};
+use record_format::{
+    Image, Items, NoMemory, TooLong, has_zeros, put_u8, put_u16, put_zeros, u8_at, u16_at,
+};
 use std::alloc::Global;
 
 /// A node of a sorted index. Level 0 is that of the leaves; the entries are in ascending order by their keys, and those of equal keys by their rows.

@@ -4,7 +4,7 @@ ghost use Rattle.std.specs.Cmp.{IsTotalOrder};
 ghost use Rattle.index_node.specs.Order.{entry_order as entry_order_of};
 
 use crate::entry::NodeEntry;
-use record_format::rdb_types::row_order;
+use record_format::row_order;
 use std::cmp::Ordering;
 
 /// The order of entries: by their keys, and equal keys by their rows.

@@ -27,7 +27,7 @@ use Rattle.relation_rows.specs.Indexed.{IsIndexOf}
 use Rattle.relation_rows.specs.Relations.{stored_row}
 use Rattle.sound_changes.proofs.PairPut.{new_pair}
 use Rattle.sound_changes.proofs.Pairs.{keys_held, none_twice}
-use Rattle.schema_writes.proofs.of_sound_definitions.Filling.{empty_index, index_grows, next_row}
+use Rattle.sound_definitions.proofs.Filling.{empty_index, index_grows, next_row}
 use Rattle.statement_view.specs.Over.{Over, Stands, laid_over}
 use Rattle.statement_view.specs.Areas.{KeepsTo}
 use Rattle.row_writes.specs.declared.stop.PairRefusal.TheVariants as pair

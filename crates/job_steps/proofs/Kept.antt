@@ -14,7 +14,7 @@ use Rattle.rdb_types.specs.declared.node.Level.TheVariants.{Area}
 use Rattle.lock_needs.specs.declared.need.Need.{Need}
 use Rattle.lock_needs.specs.Needs.{is_plain, is_plain_at}
 use Rattle.lock_needs.specs.Nodes.{is_on}
-use Rattle.gathering_steps.specs.line_steps.Images.{journal_node}
+use Rattle.line_steps.specs.Images.{journal_node}
 use Rattle.line_view.specs.Held.{knows}
 use Rattle.session_jobs.specs.Records.{Model, IsOrderly}
 use Rattle.session_jobs.specs.Jobs.{IsFound, IsLacking, WhereItAgrees}

@@ -11,9 +11,7 @@ ghost use Rattle.gathering_steps.specs.stage_steps.Scenes.{ComesIn, scene};
 ghost use Rattle.gathering_steps.specs.stage_steps.Turns.{at_stage};
 
 use crate::reserving::keep;
-use gathering_steps::gather;
-use gathering_steps::session_states::{Stage, Work};
-use gathering_steps::stage_steps::{Common, Happening, Terms, Turned, forgo, quiet};
+use gathering_steps::{Common, Happening, Stage, Terms, Turned, Work, forgo, gather, quiet};
 use line_store::LineStore;
 use rdb_types::{Copied, Session};
 use rdo_ast::syntax::Item;

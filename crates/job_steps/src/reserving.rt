@@ -14,9 +14,7 @@ ghost use Rattle.gathering_steps.specs.stage_steps.Scenes.{ComesIn, scene};
 ghost use Rattle.gathering_steps.specs.stage_steps.Turns.{at_stage};
 ghost use Rattle.job_steps.specs.Reserved.{IsReserved, reserves_at};
 
-use gathering_steps::gather;
-use gathering_steps::session_states::{Laying, Stage, Work};
-use gathering_steps::stage_steps::{Common, Terms, Turned, forgo, quiet, want};
+use gathering_steps::{Common, Laying, Stage, Terms, Turned, Work, forgo, gather, quiet, want};
 use line_store::LineStore;
 use lock_needs::Need;
 use rdb_types::Session;

@@ -5,6 +5,5 @@ mod group;
 mod passing;
 
 pub use group::pass_group;
-pub use journal_reading;
-pub use journal_reading::aij_journal;
+pub use journal_reading::{AijFault, read_header};
 pub use passing::PassedGroup;

@@ -3,7 +3,7 @@ ghost use Rattle.std.specs.Prelude.{◌≡◌, length};
 ghost use Rattle.journal_reading.specs.journal_scan.Standing.{what_stands};
 ghost use Rattle.journal_passing.specs.Passing.{no_lines, is_next as is_next_in, is_its as is_its_in, closed, grown, continued, begun_by as begun_as, passed_by};
 
-use journal_reading::aij_journal::{AijPart, read_slot};
+use journal_reading::{AijPart, read_slot};
 use rdb_types::{Dbkey, Tsn};
 
 /// A whole group without its lines: whose it is, and how many lines it has.

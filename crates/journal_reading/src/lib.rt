@@ -6,7 +6,7 @@ mod reading;
 #[cfg(test)]
 mod tests;
 
-pub use journal_scan::aij_journal;
+pub use journal_scan::{AijPart, read_header, read_slot};
 pub use one_group::group_at;
-pub use rdb_outside;
+pub use rdb_outside::Disk;
 pub use reading::{AijFault, first_number, scan};

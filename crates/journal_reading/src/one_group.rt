@@ -9,8 +9,7 @@ ghost use Rattle.journal_reading.specs.Journal.{EndsBy, standing};
 
 use crate::AijFault;
 use journal_scan::{Group, Scan, Turn};
-use rdb_outside::Disk;
-use rdb_outside::rdb_types::FileId;
+use rdb_outside::{Disk, FileId};
 use std::alloc::Global;
 
 /// The whole group of this number whose slots begin at this slot. From `end` on the file has no more, as `Disk::length` tells. Asked behind the header for the first group, and behind each for the next, it reads a journal with no more than one group in memory. The time grows as the slots that are read.

@@ -8,10 +8,8 @@ ghost use Rattle.rdb_outside.specs.Causes.{Rose};
 ghost use Rattle.rdb_outside.specs.Disk.{OnlyReads};
 ghost use Rattle.journal_reading.specs.Journal.{EndsBy, standing, IsReadUpTo};
 
-use journal_scan::aij_journal::read_header;
-use journal_scan::{Scan, Turn};
-use rdb_outside::rdb_types::{FileId, NoMemory};
-use rdb_outside::{Disk, Failed};
+use journal_scan::{Scan, Turn, read_header};
+use rdb_outside::{Disk, Failed, FileId, NoMemory};
 use std::alloc::Global;
 
 /// Why a journal wasn't read: a device call failed, slot 0 is no header, or memory was wanted.

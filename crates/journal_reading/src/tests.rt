@@ -2,9 +2,10 @@ ghost use Rattle.std.specs.Prelude.{◌<◌, length};
 ghost use Rattle.journal_scan.specs.aij_journal.Part.{IsAllowedWhat};
 
 use crate::{AijFault, scan};
-use journal_scan::aij_journal::{AijPart, GroupLine, put_header, put_slot};
-use rdb_outside::rdb_types::{Dbkey, FileId, FileKind, Image, LineState, NoMemory, Tsn};
-use rdb_outside::{Disk, Failed, MemoryDisk};
+use journal_scan::{AijPart, GroupLine, put_header, put_slot};
+use rdb_outside::{
+    Dbkey, Disk, Failed, FileId, FileKind, Image, LineState, MemoryDisk, NoMemory, Tsn,
+};
 use std::alloc::Global;
 use std::test::Fail;
 

@@ -1,7 +1,7 @@
 // How many slots a journal has left.
 ghost use Rattle.std.specs.Prelude.{◌≡◌, ◌≤◌, ◌+◌, ◌↔◌, IsOk, IfErr};
 
-use aij_journal::rdb_types::Limits;
+use aij_journal::Limits;
 
 /// A group would stand past the last slot that the journal may have. `limit` counts the slots with the header.
 #[derive(Clone, Copy, Debug, PartialEq, Eq)]

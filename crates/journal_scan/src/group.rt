@@ -1,5 +1,4 @@
-use aij_journal::GroupLine;
-use aij_journal::rdb_types::{Items, Tsn};
+use aij_journal::{GroupLine, Items, Tsn};
 
 /// Lines as a commit leaves them, in the order of their Dbkeys.
 pub type GroupLines = Items<GroupLine>;

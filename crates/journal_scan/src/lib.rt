@@ -6,7 +6,7 @@ mod group;
 mod laws;
 mod scan;
 
-pub use aij_journal;
+pub use aij_journal::{AijPart, GroupLine, put_header, put_slot, read_header, read_slot};
 pub use full::{AijFull, room};
 pub use group::{Group, GroupLines, Groups};
 pub use laws::{finds_what_was_written, finds_whole_groups, one_thing_stands, reads_in_pieces};

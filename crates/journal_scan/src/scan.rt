@@ -7,8 +7,7 @@ ghost use Rattle.journal_scan.specs.Standing.{what_stands};
 ghost use Rattle.journal_scan.specs.Reading.{begins_at, read, read_all, ended, turn_at, slot_of, no_lines, is_next as is_next_in, grows_by as grows_by_in, grown, closed};
 
 use crate::{Group, GroupLines, Groups};
-use aij_journal::rdb_types::{NoMemory, Tsn};
-use aij_journal::{AijPart, GroupLine, read_slot};
+use aij_journal::{AijPart, GroupLine, NoMemory, Tsn, read_slot};
 use std::alloc::Global;
 use std::mem;
 

@@ -12,9 +12,9 @@ use Rattle.stable_lines.specs.Slots.{Undo, ruj_file, line_at}
 use Rattle.stable_lines.specs.Progress.{Open}
 use Rattle.stable_lines.proofs.Lists.{got_left}
 use Rattle.stable_lines.proofs.Turns.{some_same}
-use Rattle.disk_seats.specs.line_moves.Calls.{OnlyWrites}
-use Rattle.disk_seats.specs.line_moves.Lines.{ChangedLines, HasLine}
-use Rattle.disk_seats.proofs.of_line_moves.OnlyPut.{lines_beside}
+use Rattle.line_moves.specs.Calls.{OnlyWrites}
+use Rattle.line_moves.specs.Lines.{ChangedLines, HasLine}
+use Rattle.line_moves.proofs.OnlyPut.{lines_beside}
 use Rattle.disk_seats.specs.Ledgers.{Standing, changing, committing, entries_of, Commit, Ledger, stands_as}
 use Rattle.disk_seats.specs.Members.{LedgerFacts}
 use Rattle.disk_versions.specs.Courses.{course_pushed}

@@ -12,8 +12,8 @@ use Rattle.stable_lines.specs.Slots.{Undo, file_of, slot_of, line_at}
 use Rattle.stable_lines.specs.Progress.{Open, Flight, Progress, begun, without, flying, landed, lines_with}
 use Rattle.stable_lines.specs.Facts.{Facts}
 use Rattle.stable_lines.proofs.Turns.{some_same, going_here, going_there}
-use Rattle.disk_seats.specs.line_moves.Lines.{ChangedLines}
-use Rattle.disk_seats.proofs.of_line_moves.Runs.{pends}
+use Rattle.line_moves.specs.Lines.{ChangedLines}
+use Rattle.line_moves.proofs.Runs.{pends}
 use Rattle.disk_seats.specs.line_opening.Undoing.{AreUndone}
 use Rattle.disk_seats.specs.line_seat.declared.commit.CommitStage.{CommitStage}
 use Rattle.disk_seats.specs.line_seat.declared.commit.CommitStage.TheVariants.{Changing, Imaging, Gathering, Sealing, Landing, Committed}

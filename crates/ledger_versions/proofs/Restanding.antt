@@ -8,9 +8,9 @@ use Rattle.line_versions.specs.Course.{Course}
 use Rattle.stable_lines.specs.Slots.{Undo, line_at}
 use Rattle.stable_lines.specs.Progress.{Open, Progress}
 use Rattle.stable_lines.specs.History.{History}
-use Rattle.disk_seats.specs.line_moves.Changes.{KeepsLines}
-use Rattle.disk_seats.specs.line_moves.Lines.{ChangedLines, AreDistinct, ArePut, HasLine, PutsOnly}
-use Rattle.disk_seats.proofs.of_line_moves.Putting.{nat_cases}
+use Rattle.line_moves.specs.Changes.{KeepsLines}
+use Rattle.line_moves.specs.Lines.{ChangedLines, AreDistinct, ArePut, HasLine, PutsOnly}
+use Rattle.line_moves.proofs.Putting.{nat_cases}
 use Rattle.disk_seats.specs.line_opening.Undoing.{PutsBack}
 use Rattle.disk_seats.specs.line_seat.declared.commit.CommitStage.{CommitStage}
 use Rattle.disk_seats.specs.line_seat.declared.commit.CommitStage.TheVariants.{Changing, Imaging, Gathering, Sealing, Landing, Committed}

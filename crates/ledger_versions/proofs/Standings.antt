@@ -7,7 +7,7 @@ use Rattle.stable_lines.specs.Slots.{Undo, file_of, slot_of, line_at}
 use Rattle.stable_lines.specs.Progress.{Open, Flight, Progress}
 use Rattle.stable_lines.specs.Facts.{IsChanged}
 use Rattle.stable_lines.proofs.Turns.{some_same}
-use Rattle.disk_seats.proofs.of_line_moves.Runs.{pends}
+use Rattle.line_moves.proofs.Runs.{pends}
 use Rattle.disk_seats.specs.line_seat.declared.commit.CommitStage.{CommitStage}
 use Rattle.disk_seats.specs.line_seat.declared.commit.CommitStage.TheVariants.{Changing, Imaging, Gathering, Sealing, Landing, Committed}
 use Rattle.disk_seats.specs.line_seat.Stages.{progress_at}

@@ -12,10 +12,10 @@ use Rattle.line_versions.specs.Course.{Course, AreActive, MayBeGiven}
 use Rattle.stable_lines.specs.Slots.{Undo}
 use Rattle.stable_lines.specs.Progress.{Open}
 use Rattle.stable_lines.proofs.Turns.{some_same}
-use Rattle.disk_seats.specs.line_moves.Calls.{OnlyWrites}
-use Rattle.disk_seats.specs.line_moves.Changes.{KeepsLines}
-use Rattle.disk_seats.specs.line_moves.Lines.{ChangedLines, AreDistinct, ArePut, PutsOnly}
-use Rattle.disk_seats.proofs.of_line_moves.OnlyPut.{keeps_lines, lines_beside}
+use Rattle.line_moves.specs.Calls.{OnlyWrites}
+use Rattle.line_moves.specs.Changes.{KeepsLines}
+use Rattle.line_moves.specs.Lines.{ChangedLines, AreDistinct, ArePut, PutsOnly}
+use Rattle.line_moves.proofs.OnlyPut.{keeps_lines, lines_beside}
 use Rattle.disk_seats.specs.line_opening.Undoing.{PutsBack}
 use Rattle.disk_seats.specs.Ledgers.{Standing, committing, undoing, entries_of, Commit, Ledger}
 use Rattle.disk_seats.specs.Members.{CommitStands, LedgerFacts}

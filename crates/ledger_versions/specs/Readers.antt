@@ -6,7 +6,7 @@ use Rattle.rdb_outside.specs.Disk.{View}
 use Rattle.line_versions.specs.Course.{Course}
 use Rattle.stable_lines.specs.Slots.{Undo}
 use Rattle.stable_lines.specs.Progress.{Open}
-use Rattle.disk_seats.specs.line_moves.Lines.{ChangedLines, ArePut}
+use Rattle.line_moves.specs.Lines.{ChangedLines, ArePut}
 use Rattle.disk_seats.specs.Ledgers.{Standing, resting, changing, broken, committing, undoing, entries_of, Commit, Ledger, flies}
 use Rattle.disk_versions.specs.Versions.{VersionFacts, SeatVersions}
 

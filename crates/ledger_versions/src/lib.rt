@@ -7,7 +7,7 @@ mod members;
 mod reading;
 
 pub use calls::calls_keep_readers;
-pub use disk_seats;
+pub use disk_seats::{raise_ceiling, settle};
 pub use lines::{a_line_is_journalled, a_line_joins, lines_join_without_a_push};
 pub use members::{members_keep_readers, standings_keep_readers};
 pub use reading::{readers_and_slots, readers_begin, readers_see_their_lines};

@@ -5,7 +5,7 @@ ghost use Rattle.line_versions.specs.Files.{entries_in};
 ghost use Rattle.line_versions.specs.Course.{Course};
 ghost use Rattle.stable_lines.specs.Slots.{Undo, line_at};
 ghost use Rattle.stable_lines.specs.Progress.{Open, lines_with};
-ghost use Rattle.disk_seats.specs.line_moves.Lines.{ArePut};
+ghost use Rattle.line_moves.specs.Lines.{ArePut};
 ghost use Rattle.disk_seats.specs.line_seat.declared.commit.CommitStage.{CommitStage};
 ghost use Rattle.disk_seats.specs.line_seat.declared.commit.CommitStage.TheVariants.{Gathering};
 ghost use Rattle.disk_seats.specs.Ledgers.{Commit, Ledger, all_stable, begun_by, broken, changing, ended_by, flies, given_up, gone_on, held_up, landed_at, marked_at, resting, stands_as, taken_up, undoing};

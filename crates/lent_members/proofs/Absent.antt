@@ -2,7 +2,7 @@
 use Rattle.std.proofs.Common.{◌≡◌, List, false, refl}
 use Rattle.rdo_ast.specs.declared.syntax.Item.{Item}
 use Rattle.session_jobs.specs.declared.jobs.Job.{Job}
-use Rattle.answered_steps.specs.session_states.States.{has_said_all}
+use Rattle.session_states.specs.States.{has_said_all}
 use Rattle.answered_steps.specs.declared.answered.Absence.{Absence}
 use Rattle.answered_steps.specs.declared.answered.Absence.TheVariants.{Writing, Reading}
 use Rattle.answered_steps.specs.Absences.{phase_with}

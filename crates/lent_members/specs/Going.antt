@@ -1,12 +1,12 @@
 -- Which sessions live, are dead, or have nothing left to do.
 use Rattle.std.specs.Prelude.{◌≡◌, ℕ, suc, nat_lt, Bool, true, false, not, ◌&&◌, List, length, Some, slice_get}
 use Rattle.rdo_ast.specs.declared.syntax.Item.{Item}
-use Rattle.answered_steps.specs.session_states.declared.stage.Phase.{Phase}
-use Rattle.answered_steps.specs.session_states.declared.stage.Phase.TheVariants.{Writing}
-use Rattle.answered_steps.specs.session_states.declared.stage.Life.{Life}
-use Rattle.answered_steps.specs.session_states.declared.stage.Life.TheVariants.{Alive, Dead, Gone}
-use Rattle.answered_steps.specs.session_states.declared.stage.Member.{Member}
-use Rattle.answered_steps.specs.session_states.States.{has_said_all}
+use Rattle.session_states.specs.declared.stage.Phase.{Phase}
+use Rattle.session_states.specs.declared.stage.Phase.TheVariants.{Writing}
+use Rattle.session_states.specs.declared.stage.Life.{Life}
+use Rattle.session_states.specs.declared.stage.Life.TheVariants.{Alive, Dead, Gone}
+use Rattle.session_states.specs.declared.stage.Member.{Member}
+use Rattle.session_states.specs.States.{has_said_all}
 use Rattle.answered_steps.specs.session_measure.Nearer.{takes_next}
 use Rattle.line_arms.specs.Going.{is_done}
 

@@ -1,7 +1,7 @@
 -- A session as contracts see it, wherever the job of its statement is.
 use Rattle.std.specs.Prelude.{◌≡◌, ℕ, List}
-use Rattle.answered_steps.specs.session_states.declared.stage.Phase.{Phase}
-use Rattle.answered_steps.specs.session_states.declared.stage.Member.{Member}
+use Rattle.session_states.specs.declared.stage.Phase.{Phase}
+use Rattle.session_states.specs.declared.stage.Member.{Member}
 use Rattle.answered_steps.specs.Absences.{phase_with}
 use Rattle.lent_members.specs.declared.lent_members.Whereabouts.{Whereabouts}
 use Rattle.lent_members.specs.declared.lent_members.Whereabouts.TheVariants as place

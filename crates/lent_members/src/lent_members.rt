@@ -1,20 +1,20 @@
 //! How the sessions are kept: each with its phase, or, while the job of its statement is out, with the receipt for it.
 ghost use Rattle.std.specs.Prelude.{◌≡◌, [], IfOk, IfErr};
-ghost use Rattle.answered_steps.specs.session_states.States.{session};
-ghost use Rattle.answered_steps.specs.session_states.declared.stage.Life.TheVariants as life;
-ghost use Rattle.answered_steps.specs.session_states.declared.stage.Phase.TheVariants as phase;
+ghost use Rattle.session_states.specs.States.{session};
+ghost use Rattle.session_states.specs.declared.stage.Life.TheVariants as life;
+ghost use Rattle.session_states.specs.declared.stage.Phase.TheVariants as phase;
 ghost use Rattle.answered_steps.specs.Absences.{phase_with};
 ghost use Rattle.lent_members.specs.Going.{is_dead as is_dead_at, with_life as with_life_of};
 ghost use Rattle.lent_members.specs.Whereabouts.{IsPresent, member_of, phase_of, phase_at};
 
 use answered_steps::Absence;
-use answered_steps::session_states::{
-    ItemQueue, Life, Phase, Reader, ReaderStage, ReaderWork, Stage, Work, Writer,
-};
 use lent_jobs::WorkedJob;
 use lent_values::{Desk, Loan, Naming, Receipt, Worked};
 use rdb_types::Word;
 use session_jobs::{Job, Statements};
+use session_states::{
+    ItemQueue, Life, Phase, Reader, ReaderStage, ReaderWork, Stage, Work, Writer,
+};
 use std::alloc::Global;
 use std::marker::Model;
 
@@ -43,7 +43,7 @@ pub struct LentMember<O: Naming, S: Statements> {
 impl<O: Naming, S: Statements> Model for LentMember<O, S> {
     ghost use Rattle.std.specs.Coded.{codes};
     ghost use Rattle.rdo_ast.specs.contracts.syntax.Action as action_type;
-    ghost use Rattle.answered_steps.specs.session_states.declared.stage.Member.{Member};
+    ghost use Rattle.session_states.specs.declared.stage.Member.{Member};
     ghost use Rattle.lent_members.specs.Whereabouts.{phase_of};
 
     ghost Value = { Member };

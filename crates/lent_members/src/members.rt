@@ -2,10 +2,10 @@
 ghost use Rattle.std.specs.Prelude.{◌≡◌, ◌<◌, length, Some, None, slice_get, slice_set, IfSome, true};
 ghost use Rattle.std.specs.Vec.{vec_len};
 ghost use Rattle.session_jobs.specs.declared.jobs.Job.{Job as JobValue};
-ghost use Rattle.answered_steps.specs.session_states.declared.stage.Member.{Member as MemberValue};
+ghost use Rattle.session_states.specs.declared.stage.Member.{Member as MemberValue};
 ghost use Rattle.answered_steps.specs.Absences.{phase_with};
 ghost use Rattle.line_arms.specs.Going.{is_done as is_done_at};
-ghost use Rattle.answered_steps.specs.session_states.States.{has_said_all as has_said_all_at};
+ghost use Rattle.session_states.specs.States.{has_said_all as has_said_all_at};
 ghost use Rattle.answered_steps.specs.session_measure.Nearer.{has_out};
 ghost use Rattle.lent_members.specs.Going.{is_over as is_over_at, is_stopping as is_stopping_at, takes_item as takes_item_at};
 ghost use Rattle.lent_members.specs.Whereabouts.{IsPresent, member_of};
@@ -13,12 +13,10 @@ ghost use Rattle.answered_steps.specs.stage_steps.Nearer.{is_for_journal as is_f
 
 use crate::lent_members::{LentMember, Present, Whereabouts};
 use answered_steps::Absence;
-use answered_steps::session_states::{
-    End, ItemQueue, Life, Phase, ReaderStage, ReaderWork, Stage, Work,
-};
 use lent_values::Naming;
 use rdb_types::Word;
 use session_jobs::Statements;
+use session_states::{End, ItemQueue, Life, Phase, ReaderStage, ReaderWork, Stage, Work};
 use std::alloc::Global;
 use std::mem::{forget, replace};
 

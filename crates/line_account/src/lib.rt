@@ -7,5 +7,4 @@ mod recording;
 pub use recording::{
     KEPT_EVENTS, MOST_EVENTS, record, record_death, record_demotion, record_recovery, reserve_step,
 };
-pub use stage_steps;
-pub use stage_steps::session_states;
+pub use stage_steps::{Common, Happening, Recovery, Turned, die, recover, serve};

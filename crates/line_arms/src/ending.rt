@@ -6,9 +6,9 @@ ghost use Rattle.job_steps.specs.stage_steps.Scenes.{ComesIn, scene};
 ghost use Rattle.job_steps.specs.stage_steps.Turns.{at_stage};
 ghost use Rattle.line_arms.specs.Going.{IsAmong};
 
-use job_steps::session_states::{End, Stage};
-use job_steps::stage_steps::{
-    Common, Terms, Turned, commit, go_away, land, prepare, quiet, roll_back, want_journal,
+use job_steps::{
+    Common, End, Stage, Terms, Turned, commit, go_away, land, prepare, quiet, roll_back,
+    want_journal,
 };
 use line_store::LineStore;
 use rdb_types::{Level, Node, Session};

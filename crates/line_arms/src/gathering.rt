@@ -7,8 +7,7 @@ ghost use Rattle.room_steps.specs.gathering_steps.Rounds.{gathers_at};
 
 use crate::working::want_lock;
 use given_rooms::Rooms;
-use job_steps::session_states::Gather;
-use job_steps::stage_steps::{Common, Terms, Turned};
+use job_steps::{Common, Gather, Terms, Turned};
 use line_store::LineStore;
 use line_view::Need;
 use rdb_types::Session;

@@ -11,10 +11,10 @@ ghost use Rattle.job_steps.specs.stage_steps.Turns.{reads_at};
 ghost use Rattle.line_arms.specs.Going.{GoesOn};
 
 use crate::Allotment;
-use job_steps::session_states::{ItemQueue, Reader, ReaderStage, ReaderWork};
-use job_steps::stage_steps::{
-    Common, ReaderRound, ReaderTerms, Turned, compute_reading, fetch_reading, forgo_reading,
-    hand_out_reading, leave_reading, quiet, take_up_reading,
+use job_steps::{
+    Common, ItemQueue, Reader, ReaderRound, ReaderStage, ReaderTerms, ReaderWork, Turned,
+    compute_reading, fetch_reading, forgo_reading, hand_out_reading, leave_reading, quiet,
+    take_up_reading,
 };
 use line_store::LineStore;
 use rdb_types::Session;

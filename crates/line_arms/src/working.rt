@@ -14,10 +14,9 @@ ghost use Rattle.job_steps.specs.stage_steps.Turns.{at_stage};
 ghost use Rattle.line_arms.specs.Going.{MayBeAsked};
 
 use crate::Allotment;
-use job_steps::compute;
-use job_steps::session_states::{Phase, Stage, Work, lock_of};
-use job_steps::stage_steps::{
-    Common, Terms, Turned, fetch_locked, forgo, hand_out, open, quiet, want,
+use job_steps::{
+    Common, Phase, Stage, Terms, Turned, Work, compute, fetch_locked, forgo, hand_out, lock_of,
+    open, quiet, want,
 };
 use line_store::LineStore;
 use line_view::Need;

@@ -12,9 +12,10 @@ use crate::Allotment;
 use crate::ending::go_on_ending;
 use crate::gathering::go_on_gathering;
 use crate::working::{go_on_working, want_lock};
-use job_steps::session_states::{ItemQueue, Laying, Stage, Writer};
-use job_steps::stage_steps::{Common, Terms, Turned, change, lay, leave, quiet, take_up};
-use job_steps::{Reserving, want_reserved};
+use job_steps::{
+    Common, ItemQueue, Laying, Reserving, Stage, Terms, Turned, Writer, change, lay, leave, quiet,
+    take_up, want_reserved,
+};
 use line_store::LineStore;
 use rdb_types::Session;
 use rdo_ast::syntax::Item;

@@ -2,7 +2,7 @@
 use Rattle.std.proofs.Common.{◌≡◌, ◌≤◌, ◌<◌, ◌-◌, ◌∙◌, ℕ, zero, suc, nat_lt, Bool, true, false, not, ◌&&◌, ◌||◌, List, Option, Some, None, IfSome, is_some, slice_get, refl, sym, ap, arith}
 use Rattle.std.proofs.lemmas.Bool.{false≢true}
 use Rattle.lock_tree.specs.Sleeping.{IsBlockedBy, is_sleeping}
-use Rattle.line_account.specs.session_states.declared.stage.Member.{Member}
+use Rattle.session_states.specs.declared.stage.Member.{Member}
 use Rattle.line_account.specs.session_stands.Sessions.{dead_in, member_at}
 use Rattle.line_account.specs.stage_steps.Nearer.{is_patient_at}
 use Rattle.line_cluster.specs.Turned.{Sessions}

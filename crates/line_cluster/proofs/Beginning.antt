@@ -10,12 +10,12 @@ use Rattle.line_store.specs.Shelves.{Shelf}
 use Rattle.line_store.specs.Calls.{MayStand}
 use Rattle.line_store.specs.Sights.{Agrees, Stands, bare, MayBeOpened}
 use Rattle.session_jobs.specs.Records.{Model, IsOrderly}
-use Rattle.line_account.specs.session_states.declared.item_queue.WholeScript.{WholeScript}
-use Rattle.line_account.specs.session_states.declared.stage.Member.{Member}
-use Rattle.line_account.specs.session_states.declared.stage.Phase.TheVariants.{Outside}
-use Rattle.line_account.specs.session_states.declared.stage.Life.TheVariants.{Alive}
-use Rattle.line_account.specs.session_states.Kept.{AreKept}
-use Rattle.line_account.proofs.of_session_states.Opened.{opened}
+use Rattle.session_states.specs.declared.item_queue.WholeScript.{WholeScript}
+use Rattle.session_states.specs.declared.stage.Member.{Member}
+use Rattle.session_states.specs.declared.stage.Phase.TheVariants.{Outside}
+use Rattle.session_states.specs.declared.stage.Life.TheVariants.{Alive}
+use Rattle.session_states.specs.Kept.{AreKept}
+use Rattle.session_states.proofs.Opened.{opened}
 use Rattle.line_account.specs.session_stands.Sessions.{AreSeated, IsTold, dead_in, sharing}
 use Rattle.line_account.proofs.of_session_stands.Seating.{began}
 use Rattle.line_account.proofs.of_session_stands.Seats.{outside-seat}

@@ -14,25 +14,25 @@ use Rattle.lock_tree_laws.specs.LockTable.{granted_at}
 use Rattle.lock_tree_laws.specs.Progress.{has_mode, is_spare_over, measure, spares_of, steps_for, steps_here, steps_of}
 use Rattle.lock_tree_laws.specs.Room.{depth}
 use Rattle.lock_tree_laws.specs.Wanted.{needs_of}
-use Rattle.line_account.specs.session_states.declared.stage.Work.{Work}
-use Rattle.line_account.specs.session_states.declared.stage.Work.TheVariants.{Opening, Due, Out, Lacking, Housing, Fetching, Lodging}
-use Rattle.line_account.specs.session_states.declared.stage.Laying.{Laying}
-use Rattle.line_account.specs.session_states.declared.stage.Laying.TheVariants.{Claiming, Changing}
-use Rattle.line_account.specs.session_states.declared.stage.End.{End}
-use Rattle.line_account.specs.session_states.declared.stage.End.TheVariants.{Preparing, Journal as JournalStage, Ready, Committing, RollingBack, Leaving}
-use Rattle.line_account.specs.session_states.declared.stage.Stage.{Stage}
-use Rattle.line_account.specs.session_states.declared.stage.Stage.TheVariants.{Between, Working, Gathering, Reserving, Saying, Ending}
-use Rattle.line_account.specs.session_states.declared.stage.ReaderWork.{ReaderWork}
-use Rattle.line_account.specs.session_states.declared.stage.ReaderWork.TheVariants as work
-use Rattle.line_account.specs.session_states.declared.stage.ReaderStage.{ReaderStage}
-use Rattle.line_account.specs.session_states.declared.stage.ReaderStage.TheVariants as look
-use Rattle.line_account.specs.session_states.declared.stage.Phase.{Phase}
-use Rattle.line_account.specs.session_states.declared.stage.Phase.TheVariants.{Outside, Closing, Writing, Reading, Over}
-use Rattle.line_account.specs.session_states.declared.stage.Life.{Life}
-use Rattle.line_account.specs.session_states.declared.stage.Life.TheVariants.{Alive, Dead, Gone}
-use Rattle.line_account.specs.session_states.declared.stage.Member.{Member}
-use Rattle.line_account.specs.session_states.States.{item_of, reader_item}
-use Rattle.line_account.specs.session_measure.Weights.{Beside, weight, sum_of, life_left, one_under_way, items_in, work_rank, laying_rank, end_rank, stage_rank, reader_rank, rank, work_left, stage_left, reader_work_left, reader_left, round_left, places_left, unopened}
+use Rattle.session_states.specs.declared.stage.Work.{Work}
+use Rattle.session_states.specs.declared.stage.Work.TheVariants.{Opening, Due, Out, Lacking, Housing, Fetching, Lodging}
+use Rattle.session_states.specs.declared.stage.Laying.{Laying}
+use Rattle.session_states.specs.declared.stage.Laying.TheVariants.{Claiming, Changing}
+use Rattle.session_states.specs.declared.stage.End.{End}
+use Rattle.session_states.specs.declared.stage.End.TheVariants.{Preparing, Journal as JournalStage, Ready, Committing, RollingBack, Leaving}
+use Rattle.session_states.specs.declared.stage.Stage.{Stage}
+use Rattle.session_states.specs.declared.stage.Stage.TheVariants.{Between, Working, Gathering, Reserving, Saying, Ending}
+use Rattle.session_states.specs.declared.stage.ReaderWork.{ReaderWork}
+use Rattle.session_states.specs.declared.stage.ReaderWork.TheVariants as work
+use Rattle.session_states.specs.declared.stage.ReaderStage.{ReaderStage}
+use Rattle.session_states.specs.declared.stage.ReaderStage.TheVariants as look
+use Rattle.session_states.specs.declared.stage.Phase.{Phase}
+use Rattle.session_states.specs.declared.stage.Phase.TheVariants.{Outside, Closing, Writing, Reading, Over}
+use Rattle.session_states.specs.declared.stage.Life.{Life}
+use Rattle.session_states.specs.declared.stage.Life.TheVariants.{Alive, Dead, Gone}
+use Rattle.session_states.specs.declared.stage.Member.{Member}
+use Rattle.session_states.specs.States.{item_of, reader_item}
+use Rattle.session_measure.specs.Weights.{Beside, weight, sum_of, life_left, one_under_way, items_in, work_rank, laying_rank, end_rank, stage_rank, reader_rank, rank, work_left, stage_left, reader_work_left, reader_left, round_left, places_left, unopened}
 use Rattle.line_cluster.specs.Measured.{no_weight, weights_from, numbers_from, measure_by, IsBounded}
 use Rattle.line_cluster.proofs.Measured.{weights-long}
 

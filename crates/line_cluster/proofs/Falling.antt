@@ -15,18 +15,18 @@ use Rattle.line_store.specs.Seats.{Seat, outside, beginning, writing, changing, 
 use Rattle.line_store.specs.Sights.{Behind, Stands, bare}
 use Rattle.line_store.proofs.InTurn.{does-as}
 use Rattle.session_jobs.specs.Records.{Model, IsOrderly}
-use Rattle.line_account.specs.session_states.declared.stage.Phase.{Phase}
-use Rattle.line_account.specs.session_states.declared.stage.Life.{Life}
-use Rattle.line_account.specs.session_states.declared.stage.Life.TheVariants.{Alive, Dead}
-use Rattle.line_account.specs.session_states.declared.stage.Member.{Member}
-use Rattle.line_account.specs.session_states.declared.stage.Work.TheVariants.{Opening as OpeningIt, Due, Out, Lacking, Housing, Fetching, Lodging}
-use Rattle.line_account.specs.session_states.declared.stage.Laying.TheVariants.{Claiming, Changing}
-use Rattle.line_account.specs.session_states.declared.stage.End.TheVariants.{Preparing, Journal, Ready, Committing, RollingBack, Leaving}
-use Rattle.line_account.specs.session_states.declared.stage.Stage.{Stage}
-use Rattle.line_account.specs.session_states.declared.stage.Stage.TheVariants.{Between, Working, Gathering, Reserving, Saying, Ending}
-use Rattle.line_account.specs.session_states.declared.stage.Phase.TheVariants.{Outside, Closing, Writing, Reading, Over}
-use Rattle.line_account.specs.session_states.States.{commits_in, has_said_all, may_die_in, session, dead_session, gone_session}
-use Rattle.line_account.specs.session_states.Steps.{Fall}
+use Rattle.session_states.specs.declared.stage.Phase.{Phase}
+use Rattle.session_states.specs.declared.stage.Life.{Life}
+use Rattle.session_states.specs.declared.stage.Life.TheVariants.{Alive, Dead}
+use Rattle.session_states.specs.declared.stage.Member.{Member}
+use Rattle.session_states.specs.declared.stage.Work.TheVariants.{Opening as OpeningIt, Due, Out, Lacking, Housing, Fetching, Lodging}
+use Rattle.session_states.specs.declared.stage.Laying.TheVariants.{Claiming, Changing}
+use Rattle.session_states.specs.declared.stage.End.TheVariants.{Preparing, Journal, Ready, Committing, RollingBack, Leaving}
+use Rattle.session_states.specs.declared.stage.Stage.{Stage}
+use Rattle.session_states.specs.declared.stage.Stage.TheVariants.{Between, Working, Gathering, Reserving, Saying, Ending}
+use Rattle.session_states.specs.declared.stage.Phase.TheVariants.{Outside, Closing, Writing, Reading, Over}
+use Rattle.session_states.specs.States.{commits_in, has_said_all, may_die_in, session, dead_session, gone_session}
+use Rattle.session_states.specs.Steps.{Fall}
 use Rattle.line_account.specs.session_stands.Seated.{stand_of, IsStandOf, HasFallen, LivesAt}
 use Rattle.line_account.specs.session_stands.Sessions.{AreSeated, IsTold, dead_in, one_dead}
 use Rattle.line_account.proofs.of_session_stands.Seating.{seated}

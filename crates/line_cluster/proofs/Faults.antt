@@ -16,7 +16,7 @@ use Rattle.line_store.specs.Seats.{Seat}
 use Rattle.line_store.specs.Shelves.{Shelf, Elapses}
 use Rattle.line_store.specs.Calls.{Fails}
 use Rattle.line_store.specs.Sights.{Sight, Behind, Does}
-use Rattle.line_account.specs.session_states.declared.stage.Phase.{Phase}
+use Rattle.session_states.specs.declared.stage.Phase.{Phase}
 use Rattle.line_account.specs.stage_steps.declared.dying.Recovery.{Recovery}
 use Rattle.line_account.specs.stage_steps.declared.dying.Recovery.TheVariants.{More, Done}
 use Rattle.line_account.specs.stage_steps.declared.happening.Happening.{Happening}

@@ -4,10 +4,10 @@ use Rattle.std.proofs.lemmas.Option.{none-some, same_Some}
 use Rattle.std.proofs.lemmas.Bool.{or_left, or_right}
 use Rattle.lock_tree_laws.specs.Progress.{measure, is_among, Falls as LocksFall}
 use Rattle.rdb_drive.specs.Boards.{Less}
-use Rattle.line_account.specs.session_states.declared.stage.Member.{Member}
-use Rattle.line_account.specs.session_measure.Weights.{Beside, weight, sum_of}
-use Rattle.line_account.specs.session_measure.Nearer.{Nears, Keeps}
-use Rattle.line_account.proofs.of_session_measure.AllNearer.{all-nearer, all-served}
+use Rattle.session_states.specs.declared.stage.Member.{Member}
+use Rattle.session_measure.specs.Weights.{Beside, weight, sum_of}
+use Rattle.session_measure.specs.Nearer.{Nears, Keeps}
+use Rattle.session_measure.proofs.AllNearer.{all-nearer, all-served}
 use Rattle.line_cluster.specs.Measured.{no_weight, weights_from, numbers_from, measure_by}
 
 -- ---- sums

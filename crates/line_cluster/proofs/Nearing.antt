@@ -14,17 +14,17 @@ use Rattle.lock_tree_laws.specs.Progress.{is_spare, Falls as LocksFall}
 use Rattle.lock_tree_laws.proofs.ServedAt.{nothing-due}
 use Rattle.line_store.specs.Seats.{Seat}
 use Rattle.session_jobs.specs.Records.{Model}
-use Rattle.line_account.specs.session_states.declared.stage.Life.{Life}
-use Rattle.line_account.specs.session_states.declared.stage.Life.TheVariants.{Alive, Dead, Gone}
-use Rattle.line_account.specs.session_states.declared.stage.Phase.{Phase}
-use Rattle.line_account.specs.session_states.declared.stage.Phase.TheVariants.{Outside, Closing, Writing, Reading, Over}
-use Rattle.line_account.specs.session_states.declared.stage.Member.{Member}
-use Rattle.line_account.specs.session_states.States.{session, dead_session}
+use Rattle.session_states.specs.declared.stage.Life.{Life}
+use Rattle.session_states.specs.declared.stage.Life.TheVariants.{Alive, Dead, Gone}
+use Rattle.session_states.specs.declared.stage.Phase.{Phase}
+use Rattle.session_states.specs.declared.stage.Phase.TheVariants.{Outside, Closing, Writing, Reading, Over}
+use Rattle.session_states.specs.declared.stage.Member.{Member}
+use Rattle.session_states.specs.States.{session, dead_session}
 use Rattle.line_account.specs.session_stands.Seated.{LivesAt}
 use Rattle.line_account.specs.session_stands.Sessions.{AreSeated, dead_in, member_at, one_dead}
-use Rattle.line_account.specs.session_measure.Weights.{Beside, Falls, unopened}
-use Rattle.line_account.specs.session_measure.Nearer.{AreRounds, Nears, Keeps, ComesNearer}
-use Rattle.line_account.proofs.of_session_measure.Nearer.{same-weight}
+use Rattle.session_measure.specs.Weights.{Beside, Falls, unopened}
+use Rattle.session_measure.specs.Nearer.{AreRounds, Nears, Keeps, ComesNearer}
+use Rattle.session_measure.proofs.Nearer.{same-weight}
 use Rattle.rdb_drive.specs.Boards.{Less}
 use Rattle.line_account.specs.stage_steps.declared.happening.Asking.{Asking}
 use Rattle.line_account.specs.stage_steps.declared.happening.Happening.{Happening}

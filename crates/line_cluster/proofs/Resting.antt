@@ -18,18 +18,18 @@ use Rattle.line_store.specs.Seats.{Seat, outside}
 use Rattle.line_store.specs.Sights.{Sight, bare}
 use Rattle.line_view.specs.Knowledge.{Lines}
 use Rattle.session_jobs.specs.Records.{Model}
-use Rattle.line_account.specs.session_states.declared.stage.End.TheVariants.{Preparing, Journal, Ready, Committing, RollingBack, Leaving}
-use Rattle.line_account.specs.session_states.declared.stage.Stage.{Stage}
-use Rattle.line_account.specs.session_states.declared.stage.Stage.TheVariants.{Between, Working, Gathering, Reserving, Saying, Ending}
-use Rattle.line_account.specs.session_states.declared.stage.Writer.{Writer}
-use Rattle.line_account.specs.session_states.declared.stage.Phase.{Phase}
-use Rattle.line_account.specs.session_states.declared.stage.Phase.TheVariants.{Outside, Closing, Writing, Reading, Over}
-use Rattle.line_account.specs.session_states.declared.stage.Life.{Life}
-use Rattle.line_account.specs.session_states.declared.stage.Life.TheVariants.{Alive, Dead, Gone}
-use Rattle.line_account.specs.session_states.declared.stage.Member.{Member}
-use Rattle.line_account.specs.session_states.States.{item_of, seen, session, state_of}
-use Rattle.line_account.specs.session_states.Fits.{LifeFits, WriterFits}
-use Rattle.line_account.specs.session_states.Shared.{Shared}
+use Rattle.session_states.specs.declared.stage.End.TheVariants.{Preparing, Journal, Ready, Committing, RollingBack, Leaving}
+use Rattle.session_states.specs.declared.stage.Stage.{Stage}
+use Rattle.session_states.specs.declared.stage.Stage.TheVariants.{Between, Working, Gathering, Reserving, Saying, Ending}
+use Rattle.session_states.specs.declared.stage.Writer.{Writer}
+use Rattle.session_states.specs.declared.stage.Phase.{Phase}
+use Rattle.session_states.specs.declared.stage.Phase.TheVariants.{Outside, Closing, Writing, Reading, Over}
+use Rattle.session_states.specs.declared.stage.Life.{Life}
+use Rattle.session_states.specs.declared.stage.Life.TheVariants.{Alive, Dead, Gone}
+use Rattle.session_states.specs.declared.stage.Member.{Member}
+use Rattle.session_states.specs.States.{item_of, seen, session, state_of}
+use Rattle.session_states.specs.Fits.{LifeFits, WriterFits}
+use Rattle.session_states.specs.Shared.{Shared}
 use Rattle.line_account.specs.session_stands.Seated.{LivesAt}
 use Rattle.line_account.specs.session_stands.Sessions.{AreSeated, IsTold, sharing, dead_in, one_dead}
 use Rattle.lent_members.specs.Going.{is_alive_life, is_dead, is_dead_life, is_over}

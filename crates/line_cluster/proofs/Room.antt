@@ -2,10 +2,10 @@
 use Rattle.std.proofs.Common.{◌≡◌, ◌≤◌, ◌<◌, ◌+◌, ◌-◌, ◌*◌, ℕ, zero, suc, ◌∷◌, [], List, length, refl, ap, arith, Some, slice_get, slice_set, Result, Ok, Err}
 use Rattle.std.proofs.lemmas.Option.{same_Some}
 use Rattle.line_store.specs.declared.answers.Fault.{Fault}
-use Rattle.line_account.specs.session_states.declared.stage.Life.{Life}
-use Rattle.line_account.specs.session_states.declared.stage.Life.TheVariants.{Alive, Dead}
-use Rattle.line_account.specs.session_states.declared.stage.Member.{Member}
-use Rattle.line_account.specs.session_measure.Weights.{life_left}
+use Rattle.session_states.specs.declared.stage.Life.{Life}
+use Rattle.session_states.specs.declared.stage.Life.TheVariants.{Alive, Dead}
+use Rattle.session_states.specs.declared.stage.Member.{Member}
+use Rattle.session_measure.specs.Weights.{life_left}
 use Rattle.line_account.specs.stage_steps.declared.dying.Recovery.{Recovery}
 use Rattle.line_account.specs.stage_steps.declared.dying.Recovery.TheVariants.{More, Done}
 use Rattle.line_account.specs.stage_steps.Deaths.{life_behind, recovery_events}

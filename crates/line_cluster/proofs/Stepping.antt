@@ -15,17 +15,17 @@ use Rattle.line_store.specs.Calls.{Fails}
 use Rattle.line_store.specs.Sights.{Sight, Behind, Stands}
 use Rattle.line_store.proofs.InTurn.{does-as, does-nothing}
 use Rattle.session_jobs.specs.Records.{Model, IsOrderly}
-use Rattle.line_account.specs.session_states.declared.stage.Writer.{Writer}
-use Rattle.line_account.specs.session_states.declared.stage.Phase.{Phase}
-use Rattle.line_account.specs.session_states.declared.stage.Phase.TheVariants.{Outside, Closing, Writing, Reading, Over}
-use Rattle.line_account.specs.session_states.declared.stage.Life.{Life}
-use Rattle.line_account.specs.session_states.declared.stage.Life.TheVariants.{Alive, Dead, Gone}
-use Rattle.line_account.specs.session_states.declared.stage.Member.{Member}
-use Rattle.line_account.specs.session_states.States.{session, has_said_all}
-use Rattle.line_account.specs.session_states.Steps.{Step}
-use Rattle.line_account.specs.session_states.Shared.{Shared, with_locks}
-use Rattle.line_account.specs.session_states.Fits.{WantsAtMost}
-use Rattle.line_account.proofs.of_session_states.Standing.{finds}
+use Rattle.session_states.specs.declared.stage.Writer.{Writer}
+use Rattle.session_states.specs.declared.stage.Phase.{Phase}
+use Rattle.session_states.specs.declared.stage.Phase.TheVariants.{Outside, Closing, Writing, Reading, Over}
+use Rattle.session_states.specs.declared.stage.Life.{Life}
+use Rattle.session_states.specs.declared.stage.Life.TheVariants.{Alive, Dead, Gone}
+use Rattle.session_states.specs.declared.stage.Member.{Member}
+use Rattle.session_states.specs.States.{session, has_said_all}
+use Rattle.session_states.specs.Steps.{Step}
+use Rattle.session_states.specs.Shared.{Shared, with_locks}
+use Rattle.session_states.specs.Fits.{WantsAtMost}
+use Rattle.session_states.proofs.Standing.{finds}
 use Rattle.line_account.specs.session_stands.Seated.{lock_in, NeedsFit, IsSeated, LivesAt}
 use Rattle.line_account.specs.session_stands.Sessions.{AreSeated, IsTold, dead_in, sharing}
 use Rattle.line_account.proofs.of_session_stands.Seating.{seated, keep-to, flies-all}

@@ -1,7 +1,7 @@
 -- Who is asleep.
 use Rattle.std.specs.Prelude.{ℕ, nat_lt, Bool, false, not, ◌&&◌, ◌||◌, Option, Some, None}
 use Rattle.lock_tree.specs.Sleeping.{is_sleeping}
-use Rattle.line_account.specs.session_states.declared.stage.Member.{Member}
+use Rattle.session_states.specs.declared.stage.Member.{Member}
 use Rattle.line_account.specs.session_stands.Sessions.{dead_in, member_at}
 use Rattle.line_account.specs.stage_steps.Nearer.{is_patient_at}
 use Rattle.line_cluster.specs.Turned.{Sessions}

@@ -7,8 +7,8 @@ use Rattle.rdb_account.specs.Events.{Event, Died}
 use Rattle.line_store.specs.declared.answers.Fault.TheVariants as fault
 use Rattle.line_store.specs.Shelves.{Shelf}
 use Rattle.line_store.specs.Sights.{Sight}
-use Rattle.line_account.specs.session_states.declared.stage.Member.{Member}
-use Rattle.line_account.specs.session_measure.Weights.{life_left}
+use Rattle.session_states.specs.declared.stage.Member.{Member}
+use Rattle.session_measure.specs.Weights.{life_left}
 use Rattle.line_cluster.specs.declared.sessions.Halt.{Halt}
 use Rattle.line_cluster.specs.declared.sessions.Halt.TheVariants as halts
 

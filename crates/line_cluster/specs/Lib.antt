@@ -1,4 +1,3 @@
-pub use Rattle.line_account.specs.session_stands as session_stands
 pub use Rattle.line_account.specs.stage_steps as stage_steps
 pub use Rattle.lent_members.specs.line_arms as line_arms
 pub use Rattle.lent_members.specs as lent_members

@@ -2,8 +2,8 @@
 use Rattle.std.specs.Prelude.{◌≡◌, ℕ, suc, Bool, true, false, List, [], ◌∷◌, ◌++◌, length}
 use Rattle.rdb_drive.specs.Boards.{Fits}
 use Rattle.lock_tree_laws.specs.Progress.{measure}
-use Rattle.line_account.specs.session_states.declared.stage.Member.{Member}
-use Rattle.line_account.specs.session_measure.Weights.{Beside, weight, sum_of}
+use Rattle.session_states.specs.declared.stage.Member.{Member}
+use Rattle.session_measure.specs.Weights.{Beside, weight, sum_of}
 
 -- the numbers of nobody
 abbrev pub no_weight : List ℕ

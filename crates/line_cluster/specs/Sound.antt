@@ -12,11 +12,11 @@ use Rattle.line_store.specs.Shelves.{Shelf, AreSpent}
 use Rattle.line_store.specs.Sights.{Sight}
 use Rattle.line_steps.specs.Images.{AreLeft, IsNow}
 use Rattle.session_jobs.specs.Records.{Model}
-use Rattle.line_account.specs.session_states.declared.stage.Phase.TheVariants.{Outside}
-use Rattle.line_account.specs.session_states.declared.stage.Member.{Member}
-use Rattle.line_account.specs.session_states.declared.item_queue.WholeScript.{WholeScript}
-use Rattle.line_account.specs.session_states.States.{session}
-use Rattle.line_account.specs.session_states.Kept.{IsOpened}
+use Rattle.session_states.specs.declared.stage.Phase.TheVariants.{Outside}
+use Rattle.session_states.specs.declared.stage.Member.{Member}
+use Rattle.session_states.specs.declared.item_queue.WholeScript.{WholeScript}
+use Rattle.session_states.specs.States.{session}
+use Rattle.session_states.specs.Kept.{IsOpened}
 use Rattle.line_account.specs.session_stands.Sessions.{AreSeated, IsTold, sharing}
 use Rattle.line_account.specs.stage_steps.Scenes.{Scene}
 use Rattle.line_cluster.specs.declared.sessions.Halt.{Halt}

@@ -10,9 +10,9 @@ use Rattle.rdb_account.specs.Legal.{AreWhole, has_not_died, is_committing}
 use Rattle.lock_tree.specs.Sleeping.{IsBlockedBy}
 use Rattle.lock_tree_laws.specs.Forest.{State}
 use Rattle.line_store.specs.Sights.{Sight}
-use Rattle.line_account.specs.session_states.declared.stage.Life.{Life}
-use Rattle.line_account.specs.session_states.declared.stage.Life.TheVariants.{Alive, Dead}
-use Rattle.line_account.specs.session_states.declared.stage.Member.{Member}
+use Rattle.session_states.specs.declared.stage.Life.{Life}
+use Rattle.session_states.specs.declared.stage.Life.TheVariants.{Alive, Dead}
+use Rattle.session_states.specs.declared.stage.Member.{Member}
 use Rattle.line_account.specs.session_stands.Sessions.{dead_in}
 use Rattle.line_account.specs.stage_steps.Nearer.{is_patient_at}
 use Rattle.lent_members.specs.line_arms.declared.allotment.Allotment.{Allotment}

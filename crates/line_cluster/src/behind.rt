@@ -6,7 +6,7 @@ ghost use Rattle.line_cluster.specs.Sound.{is_over_slot, is_unsound};
 ghost use Rattle.line_cluster.specs.declared.behind.Notice.{Notice as NoticeValue};
 
 use crate::sessions::Halt;
-use line_account::stage_steps::Happening;
+use line_account::Happening;
 use line_store::Fault;
 use rdb_types::{Node, Session};
 use vms_queues::Mode;

@@ -3,8 +3,8 @@ ghost use Rattle.std.specs.Prelude.{◌≡◌, ◌≤◌, ◌+◌, ◌-◌, ◌&
 ghost use Rattle.std.specs.Vec.{vec_len, vec_capacity};
 ghost use Rattle.rdb_account.specs.Events.{event_of, Died};
 ghost use Rattle.rdb_drive.specs.Boards.{Less};
-ghost use Rattle.line_account.specs.session_states.declared.stage.Member.{Member as MemberValue};
-ghost use Rattle.line_account.specs.session_states.States.{may_die_in};
+ghost use Rattle.session_states.specs.declared.stage.Member.{Member as MemberValue};
+ghost use Rattle.session_states.specs.States.{may_die_in};
 ghost use Rattle.line_account.specs.session_stands.Sessions.{dead_in};
 ghost use Rattle.line_account.specs.stage_steps.Deaths.{life_behind as life_behind_it};
 ghost use Rattle.line_account.specs.stage_steps.Scenes.{scene};
@@ -17,14 +17,13 @@ use crate::origin::Origin;
 use crate::sessions::{Core, Halt, Turn};
 use lent_members::{LentMember, is_over, member_at, put_member, take_member};
 use lent_values::Naming;
-use line_account::session_states::Life;
-use line_account::stage_steps::{Recovery, die, recover};
-use line_account::{record_death, record_recovery};
+use line_account::{Recovery, die, record_death, record_recovery, recover};
 use line_store::{Fault, LineStore};
 use rdb_types::{Cause, Session};
 use reached_changes::Reaches;
 use reserved_locks::Reserves;
 use session_jobs::Statements;
+use session_states::Life;
 
 /// The place of the first session that died and awaits its recovery.
 pub(crate) fn first_dead<O: Naming, S: Statements>(members: &[LentMember<O, S>]) -> Option<usize>

@@ -3,19 +3,19 @@ ghost use Rattle.std.specs.Prelude.{◌≡◌, List, [], false};
 ghost use Rattle.rdo_ast.specs.declared.syntax.Item.{Item as ItemValue};
 ghost use Rattle.line_store.specs.Seats.{IsMember};
 ghost use Rattle.line_account.specs.session_stands.Seated.{IsSeated};
-ghost use Rattle.line_account.specs.session_measure.Nearer.{AreRounds};
+ghost use Rattle.session_measure.specs.Nearer.{AreRounds};
 ghost use Rattle.line_account.specs.stage_steps.Happenings.{handed_back};
 ghost use Rattle.line_account.specs.stage_steps.Scenes.{scene};
 ghost use Rattle.lent_members.specs.line_arms.Going.{GoesOn, IsAmong, is_done};
 ghost use Rattle.lent_members.specs.Whereabouts.{IsPresent, phase_at};
 
 use lent_members::{Allotment, Presence, go_on, take_answered};
-use line_account::session_states::ItemQueue;
-use line_account::stage_steps::{Common, Turned};
+use line_account::{Common, Turned};
 use line_store::LineStore;
 use rdb_types::Session;
 use reached_changes::Reaches;
 use reserved_locks::Reserves;
+use session_states::ItemQueue;
 
 /// One step of a session that has something left to do, as `go_on` has it; where its job came back, what that came to is taken.
 pub(crate) fn go_on_from<S: Reserves + Reaches, L: LineStore>(

@@ -1,6 +1,6 @@
 //! The numbers of the measure are bounded, since memory counts what they count.
 ghost use Rattle.std.specs.Prelude.{◌≤◌, ◌<◌, ◌^◌, length};
-ghost use Rattle.line_account.specs.session_measure.Weights.{places_in, places_left, reader_places};
+ghost use Rattle.session_measure.specs.Weights.{places_in, places_left, reader_places};
 ghost use Rattle.line_cluster.specs.Measured.{IsBounded};
 ghost use Rattle.line_cluster.specs.Turned.{sessions};
 
@@ -8,10 +8,10 @@ use crate::origin::Origin;
 use crate::sessions::Core;
 use lent_members::{LentMember, Whereabouts, member_at};
 use lent_values::Naming;
-use line_account::session_states::{Phase, ReaderStage, Stage};
 use line_store::LineStore;
 use rdb_types::Session;
 use session_jobs::Statements;
+use session_states::{Phase, ReaderStage, Stage};
 
 // So much of a stage is done one after another.
 fn count_places(stage: &Stage)

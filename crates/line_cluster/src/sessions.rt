@@ -3,7 +3,7 @@ use crate::allotments::Allotments;
 use crate::origin::Origin;
 use lent_members::LentMember;
 use lent_values::{Desk, Naming};
-use line_account::stage_steps::Common;
+use line_account::Common;
 use line_store::{Fault, LineStore};
 use rdb_account::Event;
 use rdb_types::{Dbkey, Session};

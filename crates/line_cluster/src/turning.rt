@@ -2,9 +2,9 @@
 ghost use Rattle.std.specs.Prelude.{◌≡◌, ℕ, ◌≤◌, ◌<◌, ◌+◌, ◌-◌, ◌++◌, ◌∷◌, ◌⊎◌, [], length, map, None, Some, true, false, is_some, slice_get, slice_set, IfSome};
 ghost use Rattle.rdb_account.specs.Events.{event_of, Died};
 ghost use Rattle.rdb_drive.specs.Boards.{Less};
-ghost use Rattle.line_account.specs.session_states.declared.stage.Life.TheVariants.{Alive, Dead};
-ghost use Rattle.line_account.specs.session_states.declared.stage.Member.{Member as MemberValue};
-ghost use Rattle.line_account.specs.session_states.States.{may_die_in};
+ghost use Rattle.session_states.specs.declared.stage.Life.TheVariants.{Alive, Dead};
+ghost use Rattle.session_states.specs.declared.stage.Member.{Member as MemberValue};
+ghost use Rattle.session_states.specs.States.{may_die_in};
 ghost use Rattle.lent_members.specs.line_arms.Going.{is_done};
 ghost use Rattle.line_account.specs.session_stands.Sessions.{dead_in};
 ghost use Rattle.lock_tree_laws.specs.Forest.{party_of};
@@ -30,8 +30,7 @@ use lent_members::{
     take_present,
 };
 use lent_values::Naming;
-use line_account::stage_steps::serve;
-use line_account::{record, record_demotion, reserve_step};
+use line_account::{record, record_demotion, reserve_step, serve};
 use line_store::LineStore;
 use rdb_types::{Cause, Session};
 use reached_changes::Reaches;

@@ -24,8 +24,8 @@ use Rattle.session_states.specs.declared.stage.Phase.TheVariants.{Outside, Closi
 use Rattle.session_states.specs.declared.stage.Life.{Life}
 use Rattle.session_states.specs.declared.stage.Life.TheVariants.{Alive, Dead, Gone}
 use Rattle.session_states.specs.declared.stage.Member.{Member}
-use Rattle.line_cluster.specs.session_stands.Seated.{LivesAt}
-use Rattle.line_cluster.specs.session_stands.Sessions.{AreSeated, dead_in, member_at}
+use Rattle.session_stands.specs.Seated.{LivesAt}
+use Rattle.session_stands.specs.Sessions.{AreSeated, dead_in, member_at}
 use Rattle.line_cluster.specs.lent_members.Going.{is_dead, is_dead_life, is_over}
 use Rattle.line_cluster.proofs.Coming.{some-dead}
 use Rattle.line_cluster.specs.Turned.{Sessions}

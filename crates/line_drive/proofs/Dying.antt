@@ -16,7 +16,7 @@ use Rattle.line_store.specs.Seats.{Seat}
 use Rattle.session_states.specs.declared.stage.Life.{Life}
 use Rattle.session_states.specs.declared.stage.Life.TheVariants.{Alive, Dead, Gone}
 use Rattle.session_states.specs.declared.stage.Member.{Member}
-use Rattle.line_cluster.specs.session_stands.Sessions.{AreSeated, member_at}
+use Rattle.session_stands.specs.Sessions.{AreSeated, member_at}
 use Rattle.session_measure.specs.Weights.{life_left}
 use Rattle.line_cluster.specs.declared.sessions.Turn.{Turn}
 use Rattle.line_cluster.specs.declared.sessions.Turn.TheVariants as turn

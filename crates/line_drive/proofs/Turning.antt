@@ -16,7 +16,7 @@ use Rattle.session_states.specs.declared.stage.Phase.{Phase}
 use Rattle.session_states.specs.declared.stage.Phase.TheVariants.{Outside, Closing, Writing, Reading, Over}
 use Rattle.session_states.specs.declared.stage.Life.TheVariants.{Alive}
 use Rattle.session_states.specs.declared.stage.Member.{Member}
-use Rattle.line_cluster.specs.session_stands.Sessions.{AreSeated, dead_in, member_at}
+use Rattle.session_stands.specs.Sessions.{AreSeated, dead_in, member_at}
 use Rattle.session_measure.specs.Weights.{life_left}
 use Rattle.line_cluster.specs.declared.sessions.Turn.{Turn}
 use Rattle.line_cluster.specs.declared.sessions.Turn.TheVariants as turn

@@ -8,7 +8,7 @@ use Rattle.rdb_account.specs.Places.{Opening, Place, place}
 use Rattle.rdb_drive.specs.Boards.{Board, Mark}
 use Rattle.rdb_drive.specs.Orders.{upward}
 use Rattle.session_states.specs.declared.stage.Member.{Member}
-use Rattle.line_cluster.specs.session_stands.Sessions.{member_at}
+use Rattle.session_stands.specs.Sessions.{member_at}
 use Rattle.line_cluster.specs.lent_members.Going.{is_dead, is_over}
 use Rattle.line_cluster.specs.Asleep.{is_mourning, sleeps}
 use Rattle.line_cluster.specs.Deaths.{lives_in}

@@ -15,12 +15,12 @@ use Rattle.line_view.specs.Knowledge.{Knowledge, Lines, IsInOrder, Agrees, line_
 use Rattle.line_view.specs.Held.{knows, nothing, ordered, with_area}
 use Rattle.catalog_lines.specs.declared.line.CatalogLine.{CatalogLine}
 use Rattle.catalog_lines.specs.Lines.{IsCatalogLine}
-use Rattle.sound_lines.specs.catalog.declared.directory.PlacedLine.{PlacedLine}
-use Rattle.sound_lines.specs.catalog.declared.directory.Directory.{Directory}
-use Rattle.sound_lines.specs.catalog.Directory.{directory}
-use Rattle.sound_lines.specs.catalog.Schema.{misfit_from, stands, catalog_tables}
-use Rattle.sound_lines.specs.catalog.Reading.{catalog_area, line_keys, IsPresent, IsKnown, IsBad, IsNext}
-use Rattle.sound_lines.specs.catalog.Reading.IsBad.{spoiled, unfit}
+use Rattle.catalog.specs.declared.directory.PlacedLine.{PlacedLine}
+use Rattle.catalog.specs.declared.directory.Directory.{Directory}
+use Rattle.catalog.specs.Directory.{directory}
+use Rattle.catalog.specs.Schema.{misfit_from, stands, catalog_tables}
+use Rattle.catalog.specs.Reading.{catalog_area, line_keys, IsPresent, IsKnown, IsBad, IsNext}
+use Rattle.catalog.specs.Reading.IsBad.{spoiled, unfit}
 use Rattle.line_faults.specs.Catalog.{IsBadLine, without, AreTaken}
 use Rattle.line_faults.specs.Catalog.IsBadLine.{undecoded, first_misfit}
 use Rattle.line_faults.specs.Found.{IsIn}

@@ -10,10 +10,10 @@ use Rattle.catalog_lines.specs.declared.line.RelationLine.{RelationLine}
 use Rattle.catalog_lines.specs.declared.line.CatalogLine.{CatalogLine}
 use Rattle.catalog_lines.specs.declared.line.CatalogLine.TheVariants.{Relation, Global, Field as FieldOf, Index}
 use Rattle.catalog_lines.specs.Lines.{IsCatalogLine}
-use Rattle.sound_lines.specs.catalog.declared.directory.PlacedLine.{PlacedLine}
-use Rattle.sound_lines.specs.catalog.declared.reading.Catalog.{Catalog}
-use Rattle.sound_lines.specs.catalog.Schema.{misfit}
-use Rattle.sound_lines.specs.catalog.Reading.{catalog_area, line_keys, AreCatalogLines, IsCatalogOf}
+use Rattle.catalog.specs.declared.directory.PlacedLine.{PlacedLine}
+use Rattle.catalog.specs.declared.reading.Catalog.{Catalog}
+use Rattle.catalog.specs.Schema.{misfit}
+use Rattle.catalog.specs.Reading.{catalog_area, line_keys, AreCatalogLines, IsCatalogOf}
 use Rattle.sound_lines.specs.Sound.{relation_in, versions_rise, longest_key}
 
 -- ---- lines that keep the map from having a catalog

@@ -5,16 +5,16 @@ ghost use Rattle.rdb_types.specs.Order.{dbkey_order};
 ghost use Rattle.rdb_types.specs.declared.keys.Dbkey.{Dbkey as Place};
 ghost use Rattle.line_view.specs.Knowledge.{Lines, IsInOrder, Agrees, lines_in};
 ghost use Rattle.line_view.specs.Held.{nothing, knows, entry_of, with_area};
-ghost use Rattle.sound_lines.specs.catalog.declared.reading.Catalog.{Catalog as Decoded};
-ghost use Rattle.sound_lines.specs.catalog.Reading.{catalog_area, IsCatalogOf, IsWhole};
+ghost use Rattle.catalog.specs.declared.reading.Catalog.{Catalog as Decoded};
+ghost use Rattle.catalog.specs.Reading.{catalog_area, IsCatalogOf, IsWhole};
 ghost use Rattle.line_faults.specs.Catalog.{IsBadLine, IsCheckedCatalog};
 
 use crate::keys::ascending;
 use crate::sound::add_unsound;
+use catalog::{Catalog, read_catalog};
 use line_view::{Known, PresentLine, Stop};
 use ordered_entries::Entries;
 use rdb_types::{Dbkey, Image, Items, Keys, NoMemory};
-use sound_lines::catalog::{Catalog, read_catalog};
 use std::alloc::Global;
 use std::collections::BTreeSet;
 

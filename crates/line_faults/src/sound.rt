@@ -3,15 +3,15 @@ ghost use Rattle.std.specs.Prelude.{◌≡◌, ◌≤◌, ◌++◌, length, OnOk
 ghost use Rattle.std.specs.Option.{option_copied};
 ghost use Rattle.catalog_lines.specs.Lines.{IsAllowedLine};
 ghost use Rattle.rdb_meaning.specs.Contents.{fields_of};
-ghost use Rattle.sound_lines.specs.catalog.Reading.{IsWhole};
+ghost use Rattle.catalog.specs.Reading.{IsWhole};
 ghost use Rattle.sound_lines.specs.Sound.{relation_in, versions_rise};
 ghost use Rattle.line_faults.specs.Catalog.{is_sound_relation, is_sound_line, unsound};
 
+use catalog::Catalog;
 use catalog_lines::{CatalogLine, IndexLine, RelationLine};
 use rdb_meaning::{Relation, Tables};
 use rdb_types::{Field, Keys, NoMemory};
 use row_sizes::class_of;
-use sound_lines::catalog::Catalog;
 use sound_lines::longest_key;
 
 // The relation of a logical area.

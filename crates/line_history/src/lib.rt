@@ -4,4 +4,4 @@
 mod laws;
 
 pub use laws::{needs_are_asked_for, standings_stay_read_write, transactions_hold};
-pub use session_jobs;
+pub use session_jobs::{Found, Needs, Statements, TxRecord};

@@ -4,7 +4,7 @@ ghost use Rattle.line_store.specs.rdb_outside.Disk.{Pending, Counts, IsStable, O
 ghost use Rattle.stable_lines.specs.Progress.{Progress};
 ghost use Rattle.stable_lines.specs.Facts.{Facts};
 
-use line_store::rdb_outside::{Disk, Failed};
+use line_store::{Disk, Failed};
 
 /// Makes all that was written stable: behind it a crash leaves what reads give.
 pub fn make_stable<D: Disk>(disk: &mut D) -> Result<(), Failed>

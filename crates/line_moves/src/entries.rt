@@ -14,10 +14,9 @@ ghost use Rattle.line_moves.specs.Changes.{IsPlaceOf};
 
 use crate::lines::line_at;
 use crate::places::{Place, ruj_file};
-use line_store::Fault;
-use line_store::rdb_outside::Disk;
+use line_store::{Disk, Fault};
 use rdb_types::{Dbkey, Tsn};
-use stable_lines::ruj_journal::{RujEntry, put_entry};
+use stable_lines::{RujEntry, put_entry};
 
 /// Journals a line as it stands, in a slot behind the entries of the transaction that are stable.
 pub fn write_before_image<D: Disk>(

@@ -17,10 +17,7 @@ ghost use Rattle.line_moves.specs.Lines.{AllFit, AllFitBegun, AreDistinct, ArePu
 
 use crate::pages::{NoPlace, put_on};
 use crate::places::{Place, area_file};
-use line_store::Fault;
-use line_store::area_files::slot_of;
-use line_store::rdb_outside::Disk;
-use line_store::rdb_page::{Head, put_head};
+use line_store::{Disk, Fault, Head, put_head, slot_of};
 use rdb_types::{Dbkey, Line};
 use slot_fields::is_zeros;
 

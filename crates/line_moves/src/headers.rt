@@ -10,9 +10,9 @@ ghost use Rattle.stable_lines.specs.Facts.{Facts};
 ghost use Rattle.line_moves.specs.Calls.{OnlyWrites};
 
 use crate::places::ruj_file;
-use line_store::rdb_outside::{Disk, Failed};
+use line_store::{Disk, Failed};
 use rdb_types::Tsn;
-use stable_lines::ruj_journal::put_header;
+use stable_lines::put_header;
 
 /// Writes the header that names a member's open transaction.
 pub fn open_header<D: Disk>(disk: &mut D, member: u32, tsn: Tsn) -> Result<(), Failed>

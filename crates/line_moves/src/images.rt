@@ -12,10 +12,9 @@ ghost use Rattle.line_moves.specs.Calls.{OnlyWrites};
 ghost use Rattle.line_moves.specs.Changes.{IsCommitOf};
 
 use crate::places::{aij_file, root_file};
-use line_store::rdb_outside::{Disk, Failed};
+use line_store::{Disk, Failed};
 use rdb_types::Tsn;
-use stable_lines::aij_journal::{AijPart, put_slot};
-use stable_lines::root_file::{Root, put_root};
+use stable_lines::{AijPart, Root, put_root, put_slot};
 
 /// Journals a line as the commit leaves it, in a slot behind the groups.
 pub fn write_after_image<D: Disk>(disk: &mut D, slot: u32, part: &AijPart) -> Result<(), Failed>

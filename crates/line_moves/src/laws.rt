@@ -13,7 +13,7 @@ ghost use Rattle.stable_lines.specs.History.{History, StandsFrom, IsAt};
 ghost use Rattle.line_moves.specs.Calls.{OnlyWrites};
 ghost use Rattle.line_moves.specs.Changes.{IsCommitOf};
 
-use line_store::rdb_outside::Disk;
+use line_store::Disk;
 
 /// While the facts stay, so does what images since a commit stand for, at every moment of a call.
 pub fn images_at_every_moment<D: Disk>(before: &D, after: &D)

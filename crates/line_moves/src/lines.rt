@@ -9,10 +9,7 @@ ghost use Rattle.stable_lines.specs.Slots.{area_file as file_named, line_on, lin
 ghost use Rattle.line_moves.specs.Changes.{IsPlaceOf};
 
 use crate::places::{Place, area_file};
-use line_store::Fault;
-use line_store::area_files::slot_of;
-use line_store::rdb_outside::Disk;
-use line_store::rdb_page::{BadPage, lines_of, read_head, read_line};
+use line_store::{BadPage, Disk, Fault, lines_of, read_head, read_line, slot_of};
 use rdb_types::{Dbkey, Image, Line, LineState, Tsn};
 
 // A line that was never used.

@@ -18,10 +18,7 @@ ghost use Rattle.line_moves.specs.declared.places.Place.{Place as Spot};
 ghost use Rattle.line_moves.specs.Classes.{HaveTheirClasses, KeepsOwners};
 
 use crate::places::{Place, area_file};
-use line_store::Fault;
-use line_store::area_files::slot_of;
-use line_store::rdb_outside::Disk;
-use line_store::rdb_page::{is_allowed_line, lines_of, put_line, read_head};
+use line_store::{Disk, Fault, is_allowed_line, lines_of, put_line, read_head, slot_of};
 use rdb_types::{Dbkey, Line};
 
 /// The page has no place for the line, or the line is too long for it.

@@ -4,7 +4,7 @@ ghost use Rattle.stable_lines.specs.new_database.Maker.{aij_file as aij_named, r
 ghost use Rattle.stable_lines.specs.Slots.{area_file as file_named, ruj_file as journal_named};
 ghost use Rattle.line_moves.specs.Changes.{IsPlaceOf};
 
-use line_store::area_files::storage_area;
+use line_store::storage_area;
 use rdb_types::{Dbkey, FileId, FileKind};
 
 /// The number of an area file, and a page of it.

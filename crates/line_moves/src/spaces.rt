@@ -12,10 +12,8 @@ ghost use Rattle.line_moves.specs.Calls.{OnlyWrites};
 ghost use Rattle.line_moves.specs.Changes.{IsForArea, KeepsLines};
 
 use crate::places::{Place, area_file};
-use line_store::Fault;
-use line_store::area_files::{slot_of, space_page_of};
-use line_store::rdb_outside::Disk;
-use stable_lines::space_pages::{check, owner, set};
+use line_store::{Disk, Fault, slot_of, space_page_of};
+use stable_lines::{check, owner, set};
 
 /// Says on the space page that the logical area owns the page. Nothing is written where it says so already.
 pub fn enter_page<D: Disk>(disk: &mut D, place: Place, area: u32) -> Result<(), Fault>

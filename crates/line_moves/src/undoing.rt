@@ -17,10 +17,9 @@ ghost use Rattle.line_moves.specs.Classes.{HaveTheirClasses, KeepsOwners};
 use crate::lines::line_at;
 use crate::pages::change_line;
 use crate::places::{Place, place_of, ruj_file};
-use line_store::Fault;
-use line_store::rdb_outside::Disk;
+use line_store::{Disk, Fault};
 use rdb_types::Tsn;
-use stable_lines::ruj_journal::read_entry;
+use stable_lines::read_entry;
 
 /// What the undoing of an entry did.
 #[derive(Clone, Copy, Debug, PartialEq, Eq)]

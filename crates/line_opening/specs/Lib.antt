@@ -1,5 +1,4 @@
 pub use Rattle.line_moves.specs as line_moves
-pub use Rattle.line_moves.specs.new_database as new_database
 pub use Rattle.line_moves.specs.stable_lines as stable_lines
 pub mod Counting
 pub mod Faults

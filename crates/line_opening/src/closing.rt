@@ -11,8 +11,7 @@ ghost use Rattle.line_moves.specs.Calls.{OnlyWrites};
 ghost use Rattle.line_opening.specs.Headers.{AreClosed};
 
 use crate::headers::named_by;
-use line_moves::close_header;
-use line_moves::line_store::Fault;
+use line_moves::{Fault, close_header};
 use rdb_outside::Disk;
 
 /// Closes the first header, of this member or one behind, that names a transaction. The answer is the member to go on with, and 17 where there is none any more. One write at most.

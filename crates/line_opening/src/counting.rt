@@ -8,8 +8,7 @@ ghost use Rattle.line_moves.specs.stable_lines.Slots.{Undo, entry_at, ruj_file a
 ghost use Rattle.journal_passing.specs.journal_reading.Journal.{EndsBy};
 ghost use Rattle.line_opening.specs.Counting.{HasCount};
 
-use line_moves::ruj_file;
-use line_moves::ruj_journal::read_entry;
+use line_moves::{read_entry, ruj_file};
 use rdb_outside::{Disk, Failed};
 use rdb_types::Tsn;
 

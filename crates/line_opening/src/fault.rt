@@ -1,8 +1,7 @@
 ghost use Rattle.std.specs.Prelude.{◌≡◌};
 
-use journal_passing::journal_reading::AijFault;
-use line_moves::aij_file;
-use line_moves::line_store::Fault;
+use journal_passing::AijFault;
+use line_moves::{Fault, aij_file};
 use rdb_outside::Failed;
 use rdb_types::FileId;
 

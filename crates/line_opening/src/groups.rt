@@ -10,10 +10,8 @@ ghost use Rattle.line_moves.specs.stable_lines.Journal.{Journal, IsJournalOf};
 ghost use Rattle.line_opening.specs.Headers.{open_in};
 ghost use Rattle.line_opening.specs.Passing.{without, IsNext};
 
-use journal_passing::aij_journal::read_header;
-use journal_passing::pass_group;
-use line_moves::aij_file;
-use line_moves::line_store::Fault;
+use journal_passing::{pass_group, read_header};
+use line_moves::{Fault, aij_file};
 use rdb_outside::Disk;
 
 /// Where the next group of the after-image journal is written, and its number.

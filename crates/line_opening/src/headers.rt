@@ -8,9 +8,7 @@ ghost use Rattle.line_moves.specs.stable_lines.Slots.{ruj_file as ruj_named, nam
 ghost use Rattle.line_moves.specs.stable_lines.Kept.{IsRujHeader};
 ghost use Rattle.line_opening.specs.Headers.{AreNamed};
 
-use line_moves::line_store::Fault;
-use line_moves::ruj_file;
-use line_moves::ruj_journal::open_tsn;
+use line_moves::{Fault, open_tsn, ruj_file};
 use rdb_outside::Disk;
 use rdb_types::Tsn;
 

@@ -13,6 +13,8 @@ pub use counting::count_entries;
 pub use fault::OpeningFault;
 pub use groups::{NextGroup, find_open};
 pub use headers::{all_named, named_by};
-pub use line_moves;
-pub use line_moves::line_store;
+pub use line_moves::{
+    Place, aij_file, area_file, close_header, enter_page, make_stable, open_header, place_of,
+    root_file, write_root,
+};
 pub use undoing::undo_next;

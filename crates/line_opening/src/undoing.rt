@@ -13,8 +13,7 @@ ghost use Rattle.line_moves.specs.declared.places.Place.{Place as Spot};
 ghost use Rattle.line_moves.specs.Classes.{HaveTheirClasses, KeepsOwners};
 ghost use Rattle.line_opening.specs.Undoing.{AreUndone, MayUndo, PutsBack};
 
-use line_moves::line_store::Fault;
-use line_moves::{Undone, undo_line};
+use line_moves::{Fault, Undone, undo_line};
 use rdb_outside::Disk;
 use rdb_types::Tsn;
 

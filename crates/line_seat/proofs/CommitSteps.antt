@@ -12,7 +12,7 @@ use Rattle.journal_scan.specs.declared.group.Group.{Group}
 use Rattle.journal_scan.specs.Standing.{what_stands}
 use Rattle.journal_scan.specs.Whole.{slots_of, ascends}
 use Rattle.line_moves.specs.new_database.Maker.{aij_file}
-use Rattle.line_moves.specs.line_versions.Lines.{storage_area, shown, shown_as}
+use Rattle.line_versions.specs.Lines.{storage_area, shown, shown_as}
 use Rattle.line_moves.specs.stable_lines.Slots.{ruj_file, area_file, file_of, slot_of, line_on, line_at}
 use Rattle.line_moves.specs.stable_lines.Journal.{next_slot}
 use Rattle.line_moves.specs.stable_lines.Progress.{Open, Flight, Progress, flying}

@@ -8,7 +8,7 @@ use Rattle.rdb_types.specs.declared.keys.Tsn.{Tsn}
 use Rattle.rdb_outside.specs.Disk.{View, Pending, Keeps, OnlyReads}
 use Rattle.journal_scan.specs.Standing.{what_stands}
 use Rattle.line_moves.specs.new_database.Maker.{aij_file}
-use Rattle.line_moves.specs.line_versions.Lines.{storage_area}
+use Rattle.line_versions.specs.Lines.{storage_area}
 use Rattle.line_moves.specs.stable_lines.Slots.{ruj_file, area_file, slot_of, named, line_on}
 use Rattle.line_moves.specs.stable_lines.Progress.{Open, Flight, Progress}
 use Rattle.line_moves.specs.stable_lines.Facts.{HasEnded, IsNotOpen, IsCommitted, IsChanged, Facts}

@@ -18,8 +18,7 @@ ghost use Rattle.line_seat.specs.Stages.{CommitFacts, IsFurther, IsNextStage, pr
 ghost use Rattle.line_seat.specs.declared.commit.CommitStage.TheVariants.{Changing, Imaging, Gathering};
 
 use aij_journal::{AijPart, GroupLine};
-use line_moves::line_store::Fault;
-use line_moves::{make_stable, place_of, write_after_image, write_commit, write_page};
+use line_moves::{Fault, make_stable, place_of, write_after_image, write_commit, write_page};
 use rdb_outside::{Disk, Failed};
 use rdb_types::{Dbkey, Image, Line, Tsn};
 

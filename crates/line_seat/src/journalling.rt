@@ -11,8 +11,7 @@ ghost use Rattle.line_moves.specs.Calls.{OnlyWrites};
 ghost use Rattle.line_moves.specs.Changes.{IsPlaceOf};
 ghost use Rattle.line_seat.specs.Seats.{MayChange, SeatFacts};
 
-use line_moves::line_store::Fault;
-use line_moves::{Place, write_before_image};
+use line_moves::{Fault, Place, write_before_image};
 use rdb_outside::Disk;
 use rdb_types::{Dbkey, Tsn};
 

@@ -11,7 +11,7 @@ ghost use Rattle.rdb_types.specs.declared.session.Cause.{Cause};
 ghost use Rattle.rdo_ast.specs.Tree.{Uttered, commit, said};
 ghost use Rattle.rdo_ast.specs.declared.reply.Standing.{Standing};
 
-use line_history::session_jobs::Statements;
+use line_history::Statements;
 
 /// A session dies where it stands, of a cause of which it may, and nothing of the others changes. Its transaction is undone, or
 /// committed where its commit had reached the journal.

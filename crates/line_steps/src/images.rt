@@ -10,7 +10,7 @@ ghost use Rattle.lock_ties.specs.Ties.{needs_at};
 ghost use Rattle.line_steps.specs.Images.{AreLeft, IsNow, IsStored, journal_node};
 ghost use Rattle.line_steps.specs.Right.{Ground, IsFit};
 
-use line_history::session_jobs::Statements;
+use line_history::Statements;
 use line_store::LineStore;
 
 /// Each map of lines that a crash since a commit may leave stands for the tables of that commit, of a later one, or of the one in

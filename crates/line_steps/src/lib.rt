@@ -10,7 +10,7 @@ mod writers;
 
 pub use deaths::the_dead_are_recovered;
 pub use images::{crashes_leave_commits, one_commit_is_in_flight};
-pub use line_history::session_jobs;
+pub use line_history::{Found, Needs, Statements, TxRecord};
 pub use readers::{readers_step, statements_stand_outside};
 pub use sessions::sessions_go_on;
 pub use writers::{

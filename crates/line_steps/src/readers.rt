@@ -16,7 +16,7 @@ ghost use Rattle.rdo_ast.specs.declared.reply.Standing.{Standing};
 ghost use Rattle.rdo_ast.specs.declared.reply.Standing.TheVariants.{Closed, ReadOnly};
 ghost use Rattle.line_history.specs.session_jobs.Records.{IsRight, Worked};
 
-use line_history::session_jobs::Statements;
+use line_history::Statements;
 
 /// A reader has the committed lines at its start, and takes and wants no lock. Its statements are answered over what agrees with these
 /// lines, or refused by a limit or for want of memory.

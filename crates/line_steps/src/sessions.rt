@@ -7,7 +7,7 @@ ghost use Rattle.rdb_account.specs.Events.{Event};
 ghost use Rattle.rdb_account.specs.Places.{Opening, Place, place};
 ghost use Rattle.rdo_ast.specs.Tree.{Uttered};
 
-use line_history::session_jobs::Statements;
+use line_history::Statements;
 
 /// What is always true of all sessions together gives what each of them finds where nobody is dead. One step of one session keeps it
 /// for all: for the others the committed lines are alike. Steps of one session in turn are one step. Time may go on at each.

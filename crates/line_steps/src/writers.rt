@@ -28,7 +28,7 @@ ghost use Rattle.line_history.specs.session_jobs.Asked.{locks};
 ghost use Rattle.line_history.specs.session_jobs.Records.{IsRight, Worked};
 ghost use Rattle.vms_queues.specs.declared.lock_mode.Mode.{Mode};
 
-use line_history::session_jobs::Statements;
+use line_history::Statements;
 
 /// A read-write transaction begins, takes up its next statement, and learns what agrees with the committed lines under its writes where
 /// its needs guard. A notice brings down a lock of a read-write transaction and changes nothing that an account keeps.

@@ -1,8 +1,7 @@
 // What calls of a store answer.
 ghost use Rattle.std.specs.Prelude.{◌≡◌};
 
-use rdb_outside::Failed;
-use rdb_outside::rdb_types::{Dbkey, FileId, Moment};
+use rdb_outside::{Dbkey, Failed, FileId, Moment};
 
 /// A device call failed, or the slot of this number isn't what it has to be. A store tells a slot only where it has used up its numbers, and that of its root then.
 #[derive(Clone, Copy, Debug, PartialEq, Eq)]

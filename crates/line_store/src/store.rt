@@ -1,7 +1,7 @@
 use crate::{ChangeStop, CommitStop, Fault, Progress, ReadStop, Stepped};
 use area_files::AreaFull;
 use line_view::{Known, Write};
-use rdb_outside::rdb_types::{Dbkey, Moment, NoMemory, Session};
+use rdb_outside::{Dbkey, Moment, NoMemory, Session};
 use std::alloc::Global;
 
 /// The committed lines of a database, what the open transactions wrote, and the lines at each reader's start.

@@ -1,6 +1,6 @@
 ghost use Rattle.std.specs.Prelude.{◌≡◌, ℕ, List, IfOk};
 
-use ordered_entries::rdb_types::{Image, NoMemory};
+use ordered_entries::{Image, NoMemory};
 use std::alloc::{AllocError, Global};
 use std::clone::Clone;
 use std::marker::Model;

@@ -5,7 +5,7 @@ ghost use Rattle.line_view.specs.Held.{nothing, knows, ordered, key_sets, entry_
 
 use crate::image_bytes::ImageBytes;
 use crate::{Room, Seen, View};
-use ordered_entries::rdb_types::{Copied, Dbkey, Image, NoMemory};
+use ordered_entries::{Copied, Dbkey, Image, NoMemory};
 use std::alloc::Global;
 use std::collections::{BTreeMap, BTreeSet};
 use std::marker::Model;

@@ -1,4 +1,4 @@
-use ordered_entries::rdb_types::Dbkey;
+use ordered_entries::Dbkey;
 
 /// The nth line, from 0, that may be taken for a new row of a logical area on pages of a class.
 #[derive(Clone, Copy, Debug, PartialEq, Eq, PartialOrd, Ord)]

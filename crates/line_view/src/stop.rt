@@ -3,7 +3,7 @@ ghost use Rattle.std.specs.Prelude.{◌≡◌};
 ghost use Rattle.line_view.specs.Stops.{IfOwn, IsMapped, of_view};
 
 use crate::Need;
-use ordered_entries::rdb_types::{Dbkey, NoMemory};
+use ordered_entries::{Dbkey, NoMemory};
 use std::alloc::AllocError;
 
 /// Why work over a view stops. `Own` is what this kind of work has beside that.

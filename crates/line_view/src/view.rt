@@ -2,7 +2,7 @@ ghost use Rattle.std.specs.Prelude.{◌≡◌, option_map};
 ghost use Rattle.line_view.specs.Knowledge.{Knowledge, Shows};
 
 use crate::Room;
-use ordered_entries::rdb_types::Dbkey;
+use ordered_entries::Dbkey;
 use std::collections::BTreeSet;
 
 /// What a view answers of a line.

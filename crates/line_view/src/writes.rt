@@ -1,4 +1,4 @@
-use ordered_entries::rdb_types::{Dbkey, Image, Items};
+use ordered_entries::{Dbkey, Image, Items};
 
 /// A line as a change leaves it: present with this image, or not present.
 #[derive(Drop)]

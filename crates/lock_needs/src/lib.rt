@@ -13,7 +13,9 @@ pub use keeping::is_excess;
 pub use need::{Need, conflict, covers_below};
 pub use node::{contains, is_above, is_on, level_under, node_above, on_way, step_towards};
 pub use party::{Asked, OpenWant, Party, mode_for};
-pub use rdb_types;
-pub use rdb_types::{Level, Node};
-pub use vms_queues;
+pub use rdb_types::{
+    Bytes, Cause, Chars, Items, Keys, Level, Moment, NoMemory, Node, Printed, Scaled, Session,
+    Value,
+};
+pub use vms_queues::Mode;
 pub use waiting::waits_for;

@@ -2,7 +2,7 @@
 use Rattle.std.proofs.Common.{◌≡◌, ℕ, inl, inr, [], Bool, true, false, refl, ◌∙◌, sym, ap, subst}
 use Rattle.std.specs.Prelude.{◌==◌, not, ◌&&◌, if◌then◌else◌, Some, None, Option, unwrap_or}
 use Rattle.std.proofs.lemmas.Bool.{false≢true, ne_eqb, and_from, or_parts, or_cases, or_left, or_right, not_from_false}
-use Rattle.lock_needs.specs.rdb_types.declared.node.Node.{Node}
+use Rattle.rdb_types.specs.declared.node.Node.{Node}
 use Rattle.vms_queues.specs.declared.lock_mode.Mode.{Mode}
 use Rattle.vms_queues.specs.declared.lock_mode.Mode.TheVariants.{NL}
 use Rattle.vms_queues.specs.Modes.{may_share, at_most}

@@ -2,9 +2,9 @@
 use Rattle.std.proofs.Common.{◌≡◌, ℕ, true, false, refl, sym, ◌∙◌, ap, inl, inr}
 use Rattle.std.specs.Prelude.{Some, None}
 use Rattle.std.proofs.lemmas.Bool.{false≢true, or_cases}
-use Rattle.lock_needs.specs.rdb_types.declared.node.Level.{Level}
-use Rattle.lock_needs.specs.rdb_types.declared.node.Level.TheVariants.{Area, Range, Page, Line, Journal}
-use Rattle.lock_needs.specs.rdb_types.declared.node.Node.{Node}
+use Rattle.rdb_types.specs.declared.node.Level.{Level}
+use Rattle.rdb_types.specs.declared.node.Level.TheVariants.{Area, Range, Page, Line, Journal}
+use Rattle.rdb_types.specs.declared.node.Node.{Node}
 use Rattle.lock_needs.specs.Nodes.{is_above, next_level, on_way, same_node, contains, is_on, step_towards, above_of}
 use Rattle.lock_needs.proofs.NodeLaws.{make, contains-above, contains-is}
 

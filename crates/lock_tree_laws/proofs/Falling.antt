@@ -5,8 +5,8 @@ use Rattle.std.specs.List.{list_any, sum_by, count_by}
 use Rattle.std.proofs.Math.Nat.{eq-or-lt_of_le}
 use Rattle.std.proofs.lemmas.Bool.{false≢true, or_cases}
 use Rattle.std.proofs.lemmas.List.Sums.{sum_by-cons, sum_by-le-sum_by}
-use Rattle.lock_needs.specs.rdb_types.declared.node.Level.{Level}
-use Rattle.lock_needs.specs.rdb_types.declared.node.Level.TheVariants.{Area, Range, Page, Line, Journal}
+use Rattle.rdb_types.specs.declared.node.Level.{Level}
+use Rattle.rdb_types.specs.declared.node.Level.TheVariants.{Area, Range, Page, Line, Journal}
 use Rattle.lock_tree_laws.specs.Room.{depth}
 use Rattle.lock_tree_laws.specs.Progress.{IsLess, IsAtMost}
 

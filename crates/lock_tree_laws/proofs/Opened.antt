@@ -4,9 +4,9 @@ use Rattle.std.specs.Prelude.{not, ◌&&◌, ◌||◌, if◌then◌else◌, Opti
 use Rattle.std.specs.List.{list_all}
 use Rattle.std.proofs.Math.Nat.{le_trans}
 use Rattle.std.proofs.lemmas.Bool.{false≢true, cases_Bool, and_parts, and_from, or_left}
-use Rattle.lock_needs.specs.rdb_types.declared.node.Level.{Level}
-use Rattle.lock_needs.specs.rdb_types.declared.node.Level.TheVariants.{Area, Range, Page, Line, Journal}
-use Rattle.lock_needs.specs.rdb_types.declared.node.Node.{Node}
+use Rattle.rdb_types.specs.declared.node.Level.{Level}
+use Rattle.rdb_types.specs.declared.node.Level.TheVariants.{Area, Range, Page, Line, Journal}
+use Rattle.rdb_types.specs.declared.node.Node.{Node}
 use Rattle.vms_queues.specs.Modes.{at_most, intent}
 use Rattle.vms_locks.specs.Table.{Table, queues_at, IsLive}
 use Rattle.lock_needs.specs.declared.need.Need.{Need}

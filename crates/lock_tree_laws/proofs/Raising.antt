@@ -4,7 +4,7 @@ use Rattle.std.specs.Prelude.{◌&&◌, ◌==◌, not, if◌then◌else◌}
 use Rattle.std.proofs.lemmas.Bool.{false≢true, and_parts, and_from, or_left, or_cases, cases_Bool, eqb-true, eq-eqb, and_right}
 use Rattle.vms_queues.specs.declared.lock_mode.Mode.{Mode}
 use Rattle.vms_queues.specs.Modes.{may_share, at_most, least_above, intent}
-use Rattle.lock_needs.specs.rdb_types.declared.node.Node.{Node}
+use Rattle.rdb_types.specs.declared.node.Node.{Node}
 use Rattle.vms_locks.specs.Table.{Table}
 use Rattle.lock_needs.specs.Nodes.{same_node, contains, is_on, step_towards}
 use Rattle.lock_needs.specs.Needs.{covers_below}

@@ -1,7 +1,7 @@
 -- What is true of a table whatever places are spare in it.
 use Rattle.std.proofs.Common.{◌≡◌, ℕ, ◌≤◌, sym, ap, subst, List}
 use Rattle.std.proofs.Math.Nat.{le_trans}
-use Rattle.lock_needs.specs.rdb_types.declared.node.Node.{Node}
+use Rattle.rdb_types.specs.declared.node.Node.{Node}
 use Rattle.vms_queues.specs.Queues.{Queues}
 use Rattle.vms_locks.specs.Table.{Table}
 use Rattle.lock_needs.specs.declared.party.Asked.{Asked}

@@ -4,7 +4,7 @@ use Rattle.std.specs.Prelude.{◌==◌}
 use Rattle.std.proofs.lemmas.Bool.{false≢true, cases_Bool, eqb-true, and_left, and_right}
 use Rattle.vms_queues.specs.declared.lock_mode.Mode.{Mode}
 use Rattle.vms_queues.specs.Modes.{at_most, intent}
-use Rattle.lock_needs.specs.rdb_types.declared.node.Node.{Node}
+use Rattle.rdb_types.specs.declared.node.Node.{Node}
 use Rattle.lock_needs.specs.declared.need.Need.{Need}
 use Rattle.vms_locks.specs.Table.{Table}
 use Rattle.lock_needs.specs.Nodes.{same_node, contains}

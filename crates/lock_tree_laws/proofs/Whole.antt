@@ -6,7 +6,7 @@ use Rattle.std.proofs.lemmas.Bool.{false≢true, cases_Bool, eqb-true, and_parts
 use Rattle.vms_queues.specs.Queues.{Queues}
 use Rattle.vms_queues.specs.Owners.{is_owner}
 use Rattle.vms_locks.specs.Table.{Table, queues_at, IsLive}
-use Rattle.lock_needs.specs.rdb_types.declared.node.Node.{Node}
+use Rattle.rdb_types.specs.declared.node.Node.{Node}
 use Rattle.lock_needs.specs.Party.{Party}
 use Rattle.lock_needs.specs.declared.party.OpenWant.{OpenWant}
 use Rattle.lock_needs.specs.declared.party.Asked.{Asked}

@@ -4,7 +4,7 @@ use Rattle.std.specs.List.{list_any, list_all, filter, sum_by, range_with_len}
 use Rattle.std.specs.Map.{lookup}
 use Rattle.vms_queues.specs.Owners.{is_owner}
 use Rattle.vms_locks.specs.Table.{Table}
-use Rattle.lock_needs.specs.rdb_types.declared.node.Node.{Node}
+use Rattle.rdb_types.specs.declared.node.Node.{Node}
 use Rattle.lock_needs.specs.declared.need.Need.{Need}
 use Rattle.lock_needs.specs.declared.party.OpenWant.{OpenWant}
 use Rattle.lock_needs.specs.declared.party.Asked.{Asked}

@@ -1,7 +1,7 @@
 -- Room for what a call may come to hold and ask, taken before it changes anything.
 use Rattle.std.specs.Prelude.{◌≡◌, ℕ}
-use Rattle.lock_needs.specs.rdb_types.declared.node.Level.{Level}
-use Rattle.lock_needs.specs.rdb_types.declared.node.Level.TheVariants.{Area, Range, Page, Line, Journal}
+use Rattle.rdb_types.specs.declared.node.Level.{Level}
+use Rattle.rdb_types.specs.declared.node.Level.TheVariants.{Area, Range, Page, Line, Journal}
 use Rattle.lock_tree_laws.specs.Forest.{State, party_of}
 
 -- how deep nodes of the level lie

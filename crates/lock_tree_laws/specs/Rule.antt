@@ -1,7 +1,7 @@
 -- The rule by which a want goes down: at each node it takes its whole need where that can be granted at once, else it asks its mode.
 use Rattle.std.specs.Prelude.{◌≡◌, ℕ, Bool, true, false, List, [], ◌∷◌, ◌++◌, map, ◌⊎◌}
 use Rattle.std.specs.List.{AllByRecursion}
-use Rattle.lock_needs.specs.rdb_types.declared.node.Node.{Node}
+use Rattle.rdb_types.specs.declared.node.Node.{Node}
 use Rattle.vms_queues.specs.Modes.{at_most}
 use Rattle.vms_locks.specs.Table.{Table}
 use Rattle.vms_locks.specs.Answers.{Answers}

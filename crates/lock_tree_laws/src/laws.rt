@@ -1,5 +1,5 @@
 ghost use Rattle.std.specs.Prelude.{◌≡◌, ℕ, Bool, List, [], None, true};
-ghost use Rattle.lock_needs.specs.rdb_types.declared.node.Node.{Node};
+ghost use Rattle.rdb_types.specs.declared.node.Node.{Node};
 ghost use Rattle.vms_queues.specs.Queues.{IsSound};
 ghost use Rattle.vms_queues.specs.Modes.{least_above};
 ghost use Rattle.vms_locks.specs.Table.{Table, queues_at, IsLive, WaitsIn};

@@ -1,5 +1,5 @@
 ghost use Rattle.std.specs.Prelude.{◌≡◌, ◌+◌, ℕ, List, true, None, Some};
-ghost use Rattle.lock_needs.specs.rdb_types.declared.node.Node.{Node};
+ghost use Rattle.rdb_types.specs.declared.node.Node.{Node};
 ghost use Rattle.lock_needs.specs.declared.party.OpenWant.{OpenWant};
 ghost use Rattle.lock_needs.specs.Nodes.{is_on, above_of};
 ghost use Rattle.lock_tree_laws.specs.LockTable.{granted_at};

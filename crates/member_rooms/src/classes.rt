@@ -2,7 +2,7 @@
 ghost use Rattle.std.specs.Prelude.{◌≡◌, IfSome, IfNone};
 ghost use Rattle.member_rooms.specs.Classes.{IsClassOf, HasNoOwned};
 
-use committed_tables::page_table::PageTable;
+use committed_tables::PageTable;
 
 /// The class of some page that the area owns by the table, if it owns one.
 pub fn class_of(table: &PageTable, area: u32) -> Option<u16>

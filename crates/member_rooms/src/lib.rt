@@ -6,7 +6,7 @@ mod laws;
 mod rooms;
 
 pub use classes::class_of;
-pub use committed_tables::page_table;
+pub use committed_tables::PageTable;
 pub use laws::rooms_beside_are_shown;
 pub use rooms::{is_new, next_room};
-pub use store_shows::member_steps;
+pub use store_shows::{CommitTurn, NUMBERS};

@@ -7,7 +7,7 @@ ghost use Rattle.committed_tables.specs.page_table.Scans.{Fits, IsNew};
 ghost use Rattle.member_rooms.specs.Rooms.{own_image, IsRoomBeside, HasNoPage};
 
 use area_files::is_space_page;
-use committed_tables::page_table::{PageTable, Sought};
+use committed_tables::{PageTable, Sought};
 use member_memory::MemberLines;
 use rdb_types::{Dbkey, Line, LineState};
 

@@ -1,4 +1,3 @@
-pub use Rattle.disk_seats.proofs.of_line_seat as of_line_seat
 pub mod OwnersSaid
 pub mod Journals
 pub mod JournalsStay

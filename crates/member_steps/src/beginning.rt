@@ -11,7 +11,7 @@ ghost use Rattle.disk_seats.specs.Ledgers.{new_ledger};
 ghost use Rattle.disk_seats.specs.Members.{LedgerFacts};
 ghost use Rattle.member_steps.specs.Beginning.{IsRaised, HasCeiling, IsAtRest};
 
-use disk_seats::line_moves::{make_stable, root_file, write_root};
+use disk_seats::{make_stable, root_file, write_root};
 use line_store::Fault;
 use rdb_outside::Disk;
 use root_file::{Root, read_root};

@@ -19,9 +19,7 @@ ghost use Rattle.disk_seats.specs.Members.{LedgerFacts};
 ghost use Rattle.member_steps.specs.declared.committing.CommitTurn.TheVariants.{Entering, Securing, Going};
 ghost use Rattle.member_steps.specs.Turns.{IsFurtherTurn, IsNextTurn, Plan, plan_of, TurnFacts, NextFacts, ledger_behind, ledger_held};
 
-use disk_seats::line_moves::place_of;
-use disk_seats::line_seat::{CommitStage, GroupPlace};
-use disk_seats::{enter, go_on, settle};
+use disk_seats::{CommitStage, GroupPlace, enter, go_on, place_of, settle};
 use line_store::Fault;
 use rdb_outside::Disk;
 use rdb_types::{Dbkey, Line};

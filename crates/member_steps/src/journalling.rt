@@ -13,9 +13,7 @@ ghost use Rattle.disk_seats.specs.Members.{LedgerFacts, IsLeftTo};
 ghost use Rattle.member_steps.specs.declared.journalling.Journalled.TheVariants.{Header};
 ghost use Rattle.member_steps.specs.Journalling.{ledger_with};
 
-use disk_seats::line_moves::Place;
-use disk_seats::line_opening::named_by;
-use disk_seats::{journal, name_header};
+use disk_seats::{Place, journal, name_header, named_by};
 use line_store::Fault;
 use rdb_outside::Disk;
 use rdb_types::{Dbkey, Tsn};

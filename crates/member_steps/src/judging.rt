@@ -9,8 +9,7 @@ ghost use Rattle.disk_seats.specs.stable_lines.Progress.{Flight, Progress};
 ghost use Rattle.disk_seats.specs.line_moves.Changes.{IsCommitOf};
 
 use aij_journal::{AijPart, read_slot};
-use disk_seats::line_moves::aij_file;
-use disk_seats::line_seat::GroupPlace;
+use disk_seats::{GroupPlace, aij_file};
 use rdb_outside::{Disk, Failed};
 
 // Whether a part is the commit of a group with so many lines.

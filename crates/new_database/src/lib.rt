@@ -4,7 +4,7 @@
 mod maker;
 mod new;
 
-pub use aij_journal;
+pub use aij_journal::{AijPart, put_slot};
 pub use maker::NewFault;
 pub use new::make_new;
-pub use root_file;
+pub use root_file::{Root, put_root};

@@ -4,9 +4,8 @@ ghost use Rattle.rdb_outside.specs.Disk.{Image, LeftNow, LeavesOnly, Keeps};
 ghost use Rattle.rdb_outside.specs.Causes.{Rose};
 ghost use Rattle.new_database.specs.Maker.{IsUnmade, IsNew, IsNewOrNone, HasRoot, MakesNone};
 
-use rdb_outside::rdb_types::{FileId, FileKind};
-use rdb_outside::{Disk, Failed};
-use root_file::slot_fields::is_zeros;
+use rdb_outside::{Disk, Failed, FileId, FileKind};
+use root_file::is_zeros;
 
 /// Why no database was made: a device call failed, or the root slot isn't zeros.
 #[derive(Clone, Copy, Debug, PartialEq, Eq)]

@@ -9,8 +9,7 @@ ghost use Rattle.new_database.specs.New.{new_root as root_of, IsNewDatabase, IsN
 use crate::NewFault;
 use crate::maker::make;
 use aij_journal::put_header;
-use rdb_outside::Disk;
-use rdb_outside::rdb_types::Limits;
+use rdb_outside::{Disk, Limits};
 use root_file::{Root, put_root};
 
 fn new_root(limits: Limits) -> Root

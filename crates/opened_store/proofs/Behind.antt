@@ -32,8 +32,8 @@ use Rattle.disk_seats.specs.Ledgers.{new_ledger}
 use Rattle.disk_seats.specs.Members.{LedgerFacts}
 use Rattle.member_steps.specs.Beginning.{HasCeiling}
 use Rattle.member_steps.proofs.Journals.{read_ledger}
-use Rattle.disk_store.specs.store_shows.Rooms.{is_free}
-use Rattle.disk_store.proofs.of_store_shows.Taken.{not_free}
+use Rattle.store_shows.specs.Rooms.{is_free}
+use Rattle.store_shows.proofs.Taken.{not_free}
 use Rattle.committed_lines.proofs.Nowhere.{nowhere}
 use Rattle.disk_store.specs.declared.held.Tables.{Tables}
 use Rattle.disk_store.specs.Memory.{StoreMemory}

@@ -36,8 +36,8 @@ use Rattle.committed_tables.specs.Tables.{HasCommitted}
 use Rattle.committed_tables.proofs.AtOpening.{begins_with}
 use Rattle.disk_versions.proofs.Beginnings.{opens}
 use Rattle.ledger_versions.proofs.Restanding.{first_readers}
-use Rattle.disk_store.specs.store_shows.Rooms.{is_free}
-use Rattle.disk_store.specs.store_shows.Shows.{ShowsLines}
+use Rattle.store_shows.specs.Rooms.{is_free}
+use Rattle.store_shows.specs.Shows.{ShowsLines}
 use Rattle.disk_store.specs.Memory.{StoreMemory}
 use Rattle.disk_store.specs.Opening.{AreFresh, HasAllFree}
 use Rattle.disk_store.specs.Seats.{steps_at}

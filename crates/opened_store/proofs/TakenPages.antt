@@ -11,8 +11,8 @@ use Rattle.database_opening.specs.Owners.{owner_said}
 use Rattle.page_table.specs.declared.uses.PageUse.{PageUse}
 use Rattle.page_table.specs.Pages.{Pages, nobodys, owner_in}
 use Rattle.page_table.specs.Scans.{IsNew}
-use Rattle.disk_store.specs.store_shows.Rooms.{is_free}
-use Rattle.disk_store.proofs.of_store_shows.Taken.{new_free}
+use Rattle.store_shows.specs.Rooms.{is_free}
+use Rattle.store_shows.proofs.Taken.{new_free}
 use Rattle.disk_store.specs.declared.held.Tables.{Tables}
 use Rattle.disk_store.specs.Shown.{pages_of}
 use Rattle.opened_store.specs.Tables.{AreTablesOf}

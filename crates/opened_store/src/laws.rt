@@ -12,7 +12,7 @@ ghost use Rattle.stable_lines.specs.Journal.{Journal};
 ghost use Rattle.stable_lines.specs.Kept.{Kept};
 ghost use Rattle.line_moves.specs.Classes.{IsClassed};
 ghost use Rattle.disk_store.specs.Shown.{Shown};
-ghost use Rattle.disk_store.specs.store_shows.Shows.{OpensTo};
+ghost use Rattle.store_shows.specs.Shows.{OpensTo};
 
 use disk_store::Held;
 use rdb_outside::Disk;

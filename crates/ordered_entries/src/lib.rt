@@ -8,4 +8,6 @@ mod tests;
 
 pub use entries::Entries;
 pub use key::Key;
-pub use rdb_types;
+pub use rdb_types::{
+    Chars, Copied, Dbkey, Field, FieldType, Fields, Image, Items, NoMemory, Positions, Row,
+};

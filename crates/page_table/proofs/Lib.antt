@@ -1,5 +1,4 @@
 pub use Rattle.database_opening.proofs.of_line_moves as of_line_moves
-pub use Rattle.database_opening.proofs.of_stable_lines as of_stable_lines
 pub mod Orders
 pub mod Fitting
 pub mod Said

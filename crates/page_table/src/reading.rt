@@ -15,9 +15,7 @@ ghost use Rattle.page_table.specs.Reading.{SaysUse, IsEntryOf, IsTableOf, ArePag
 use crate::table::PageTable;
 use crate::uses::PageUse;
 use area_files::{is_space_page, slot_of};
-use database_opening::line_moves::area_file;
-use database_opening::line_opening::OpeningFault;
-use database_opening::read_owners;
+use database_opening::{OpeningFault, area_file, read_owners};
 use rdb_outside::Disk;
 use rdb_page::{BadPage, Head, lines_of, read_head, read_line};
 use rdb_types::LineState;

@@ -1,9 +1,9 @@
 -- Accounts that are not legal, each of a wrong body.
 use Rattle.std.proofs.Common.{arith}
 use Rattle.std.specs.Prelude.{ℕ, ◌==◌, if◌then◌else◌, false, List, [], ◌∷◌}
-use Rattle.rdb_meaning.specs.rdo_ast.declared.reply.Reply.TheVariants as r
-use Rattle.rdb_meaning.specs.rdo_ast.declared.reply.Standing.TheVariants.{ReadOnly}
-use Rattle.rdb_meaning.specs.rdo_ast.Tree.{Uttered, said, start_read_only, commit}
+use Rattle.rdo_ast.specs.declared.reply.Reply.TheVariants as r
+use Rattle.rdo_ast.specs.declared.reply.Standing.TheVariants.{ReadOnly}
+use Rattle.rdo_ast.specs.Tree.{Uttered, said, start_read_only, commit}
 use Rattle.lock_needs.specs.vms_queues.declared.lock_mode.Mode.TheVariants.{PR, EX}
 use Rattle.lock_needs.specs.rdb_types.declared.session.Cause.TheVariants as cause
 use Rattle.rdb_account.specs.Events.{Event, Began, Wanted, Got, Said, Committed, Died, Recovered, need}

@@ -1,8 +1,8 @@
 -- Accounts that are not legal: refusals and deaths without their cause.
 use Rattle.std.proofs.Common.{arith}
 use Rattle.std.specs.Prelude.{ℕ, refl, ◌≡◌, ◌==◌, ◌||◌, if◌then◌else◌, Bool, false, List, [], ◌∷◌}
-use Rattle.rdb_meaning.specs.rdo_ast.declared.reply.Reply.TheVariants as r
-use Rattle.rdb_meaning.specs.rdo_ast.Tree.{Uttered, said, commit}
+use Rattle.rdo_ast.specs.declared.reply.Reply.TheVariants as r
+use Rattle.rdo_ast.specs.Tree.{Uttered, said, commit}
 use Rattle.lock_needs.specs.vms_queues.declared.lock_mode.Mode.TheVariants.{CR, PW, EX}
 use Rattle.lock_needs.specs.rdb_types.declared.session.Cause.TheVariants as cause
 use Rattle.rdb_account.specs.Events.{Event, Began, Demoted, Said, Died, Recovered, need}

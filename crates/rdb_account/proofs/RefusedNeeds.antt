@@ -1,9 +1,9 @@
 -- Accounts that are not legal: needs that nothing asks for, that conflict, and lock refusals out of place.
 use Rattle.std.proofs.Common.{arith}
 use Rattle.std.specs.Prelude.{ℕ, ◌==◌, if◌then◌else◌, List, [], ◌∷◌}
-use Rattle.rdb_meaning.specs.rdo_ast.declared.reply.Reply.TheVariants as r
-use Rattle.rdb_meaning.specs.rdo_ast.declared.reply.Standing.TheVariants.{ReadOnly}
-use Rattle.rdb_meaning.specs.rdo_ast.Tree.{Uttered, said, start_read_only, commit}
+use Rattle.rdo_ast.specs.declared.reply.Reply.TheVariants as r
+use Rattle.rdo_ast.specs.declared.reply.Standing.TheVariants.{ReadOnly}
+use Rattle.rdo_ast.specs.Tree.{Uttered, said, start_read_only, commit}
 use Rattle.lock_needs.specs.vms_queues.declared.lock_mode.Mode.TheVariants.{PR, EX}
 use Rattle.rdb_account.specs.Events.{Event, Began, Wanted, Got, Said, Committed, need}
 use Rattle.rdb_account.specs.Places.{Opening}

@@ -1,7 +1,7 @@
 -- Accounts of a session whose script ends in a stop.
 use Rattle.std.proofs.Common.{arith}
 use Rattle.std.specs.Prelude.{refl, ℕ, ◌==◌, if◌then◌else◌, Bool, false, List, [], ◌∷◌}
-use Rattle.rdb_meaning.specs.rdo_ast.Tree.{Uttered, said, start_read_only}
+use Rattle.rdo_ast.specs.Tree.{Uttered, said, start_read_only}
 use Rattle.lock_needs.specs.rdb_types.declared.session.Cause.TheVariants as cause
 use Rattle.rdb_account.specs.Events.{Event, Began, Said, RolledBack, Died, Recovered}
 use Rattle.rdb_account.specs.Places.{Opening}

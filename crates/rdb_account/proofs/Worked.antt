@@ -6,16 +6,16 @@ use Rattle.lock_needs.specs.rdb_types.declared.values.Scaled.{Scaled}
 use Rattle.lock_needs.specs.rdb_types.declared.keys.Dbkey.{Dbkey}
 use Rattle.lock_needs.specs.rdb_types.declared.values.FieldType.{FieldType}
 use Rattle.lock_needs.specs.rdb_types.declared.values.DataType.TheVariants as data_type
-use Rattle.rdb_meaning.specs.rdo_ast.declared.syntax.Comparison.TheVariants as by
-use Rattle.rdb_meaning.specs.rdo_ast.declared.syntax.Arithmetic.TheVariants.{Plus}
-use Rattle.rdb_meaning.specs.rdo_ast.declared.syntax.Reservation.{Reservation}
-use Rattle.rdb_meaning.specs.rdo_ast.declared.syntax.Share.TheVariants.{Shared, Protected}
-use Rattle.rdb_meaning.specs.rdo_ast.declared.syntax.DefinedType.TheVariants.{Own}
-use Rattle.rdb_meaning.specs.rdo_ast.declared.reply.Reply.{Reply}
-use Rattle.rdb_meaning.specs.rdo_ast.declared.reply.Reply.TheVariants as r
-use Rattle.rdb_meaning.specs.rdo_ast.declared.reply.Standing.{Standing}
-use Rattle.rdb_meaning.specs.rdo_ast.declared.reply.Standing.TheVariants.{ReadOnly, ReadWrite}
-use Rattle.rdb_meaning.specs.rdo_ast.Tree.{Name, Expression, number, field, chain, no_operation, operation, compare, no_test, test, no_conjunction, conjunction, With, without_condition, with_condition, ranging, Act, store, for_each, print, value, all_fields, modify, act, no_act, Uttered, said, start_read_only, start_read_write, commit, rollback, perform, define_relation}
+use Rattle.rdo_ast.specs.declared.syntax.Comparison.TheVariants as by
+use Rattle.rdo_ast.specs.declared.syntax.Arithmetic.TheVariants.{Plus}
+use Rattle.rdo_ast.specs.declared.syntax.Reservation.{Reservation}
+use Rattle.rdo_ast.specs.declared.syntax.Share.TheVariants.{Shared, Protected}
+use Rattle.rdo_ast.specs.declared.syntax.DefinedType.TheVariants.{Own}
+use Rattle.rdo_ast.specs.declared.reply.Reply.{Reply}
+use Rattle.rdo_ast.specs.declared.reply.Reply.TheVariants as r
+use Rattle.rdo_ast.specs.declared.reply.Standing.{Standing}
+use Rattle.rdo_ast.specs.declared.reply.Standing.TheVariants.{ReadOnly, ReadWrite}
+use Rattle.rdo_ast.specs.Tree.{Name, Expression, number, field, chain, no_operation, operation, compare, no_test, test, no_conjunction, conjunction, With, without_condition, with_condition, ranging, Act, store, for_each, print, value, all_fields, modify, act, no_act, Uttered, said, start_read_only, start_read_write, commit, rollback, perform, define_relation}
 use Rattle.rdb_meaning.specs.declared.tables.Tables.{Tables}
 use Rattle.rdb_meaning.specs.Contents.{no_tables}
 use Rattle.rdb_meaning.specs.Numbers.{numeral}

@@ -4,10 +4,10 @@ use Rattle.std.specs.List.{list_all, list_any}
 use Rattle.std.specs.FinMap.Entries.{find}
 use Rattle.lock_needs.specs.rdb_types.declared.node.Level.TheVariants as level
 use Rattle.lock_needs.specs.rdb_types.declared.node.Node.{Node}
-use Rattle.rdb_meaning.specs.rdo_ast.declared.syntax.Reservation.{Reservation}
-use Rattle.rdb_meaning.specs.rdo_ast.declared.syntax.Share.{Share}
-use Rattle.rdb_meaning.specs.rdo_ast.declared.syntax.Share.TheVariants.{Shared, Protected, Exclusive}
-use Rattle.rdb_meaning.specs.rdo_ast.Tree.{Command, Uttered, said, syntax_fault, invoke, start_read_only, start_read_write, commit, rollback, finish, perform, define_field, define_relation, define_index, delete_relation, delete_index}
+use Rattle.rdo_ast.specs.declared.syntax.Reservation.{Reservation}
+use Rattle.rdo_ast.specs.declared.syntax.Share.{Share}
+use Rattle.rdo_ast.specs.declared.syntax.Share.TheVariants.{Shared, Protected, Exclusive}
+use Rattle.rdo_ast.specs.Tree.{Command, Uttered, said, syntax_fault, invoke, start_read_only, start_read_write, commit, rollback, finish, perform, define_field, define_relation, define_index, delete_relation, delete_index}
 use Rattle.rdb_meaning.specs.declared.tables.Relation.{Relation}
 use Rattle.rdb_meaning.specs.declared.tables.Tables.{Tables}
 use Rattle.lock_needs.specs.rdb_types.Order.{chars_order}

@@ -1,10 +1,10 @@
 -- The events of a run as plain data.
 use Rattle.std.specs.Prelude.{ℕ, Bool, List}
 use Rattle.lock_needs.specs.rdb_types.declared.keys.Dbkey.{Dbkey}
-use Rattle.rdb_meaning.specs.rdo_ast.declared.reply.Reply.{Reply}
-use Rattle.rdb_meaning.specs.rdo_ast.declared.reply.Standing.{Standing}
-use Rattle.rdb_meaning.specs.rdo_ast.Tree.{Uttered}
-use Rattle.rdb_meaning.specs.rdo_ast.Views.{uttered_of}
+use Rattle.rdo_ast.specs.declared.reply.Reply.{Reply}
+use Rattle.rdo_ast.specs.declared.reply.Standing.{Standing}
+use Rattle.rdo_ast.specs.Tree.{Uttered}
+use Rattle.rdo_ast.specs.Views.{uttered_of}
 use Rattle.lock_needs.specs.vms_queues.declared.lock_mode.Mode.{Mode}
 use Rattle.lock_needs.specs.declared.need.Need.{Need}
 use Rattle.lock_needs.specs.rdb_types.declared.node.Node.{Node}

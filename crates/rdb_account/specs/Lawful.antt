@@ -2,11 +2,11 @@
 use Rattle.std.specs.Prelude.{◌≡◌, ℕ, zero, suc, Bool, true, false, not, ◌&&◌, ◌||◌, ◌==◌, ◌+◌, ◌-◌, nat_lt, ◌%◌, if◌then◌else◌, List, [], ◌∷◌, length, map, sum_by, Option, Some, None}
 use Rattle.std.specs.List.{list_any}
 use Rattle.lock_needs.specs.rdb_types.declared.keys.Dbkey.{Dbkey}
-use Rattle.rdb_meaning.specs.rdo_ast.declared.reply.Reply.{Reply}
-use Rattle.rdb_meaning.specs.rdo_ast.declared.reply.Reply.TheVariants as r
-use Rattle.rdb_meaning.specs.rdo_ast.declared.reply.Standing.{Standing}
-use Rattle.rdb_meaning.specs.rdo_ast.declared.reply.Standing.TheVariants.{ReadWrite}
-use Rattle.rdb_meaning.specs.rdo_ast.Tree.{Uttered, said, syntax_fault, invoke, commit, rollback, finish, perform, define_field, define_relation, define_index, delete_relation, delete_index}
+use Rattle.rdo_ast.specs.declared.reply.Reply.{Reply}
+use Rattle.rdo_ast.specs.declared.reply.Reply.TheVariants as r
+use Rattle.rdo_ast.specs.declared.reply.Standing.{Standing}
+use Rattle.rdo_ast.specs.declared.reply.Standing.TheVariants.{ReadWrite}
+use Rattle.rdo_ast.specs.Tree.{Uttered, said, syntax_fault, invoke, commit, rollback, finish, perform, define_field, define_relation, define_index, delete_relation, delete_index}
 use Rattle.rdb_meaning.specs.declared.tables.Tables.{Tables}
 use Rattle.rdb_meaning.specs.Checks.{Refusal, is_retrieval}
 use Rattle.rdb_meaning.specs.Meaning.{Meaning, means, meaningless, meaning, standing_refusal}

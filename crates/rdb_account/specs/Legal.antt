@@ -1,10 +1,10 @@
 -- Which accounts are legal: what may happen at a place, event by event.
 use Rattle.std.specs.Prelude.{◌≡◌, ◌≤◌, ℕ, Bool, true, false, not, ◌&&◌, ◌||◌, ◌==◌, List, [], ◌∷◌, length, Option, Some, None}
-use Rattle.rdb_meaning.specs.rdo_ast.declared.reply.Reply.{Reply}
-use Rattle.rdb_meaning.specs.rdo_ast.declared.reply.Reply.TheVariants as r
-use Rattle.rdb_meaning.specs.rdo_ast.declared.reply.Standing.{Standing}
-use Rattle.rdb_meaning.specs.rdo_ast.declared.reply.Standing.TheVariants.{Closed, ReadOnly}
-use Rattle.rdb_meaning.specs.rdo_ast.Tree.{Uttered, said, commit, rollback}
+use Rattle.rdo_ast.specs.declared.reply.Reply.{Reply}
+use Rattle.rdo_ast.specs.declared.reply.Reply.TheVariants as r
+use Rattle.rdo_ast.specs.declared.reply.Standing.{Standing}
+use Rattle.rdo_ast.specs.declared.reply.Standing.TheVariants.{Closed, ReadOnly}
+use Rattle.rdo_ast.specs.Tree.{Uttered, said, commit, rollback}
 use Rattle.rdb_meaning.specs.declared.tables.Tables.{Tables}
 use Rattle.rdb_meaning.specs.Meaning.{meaning}
 use Rattle.rdb_meaning.specs.Usual.{is_refusal_of_means}

@@ -2,11 +2,11 @@
 use Rattle.std.specs.Prelude.{◌≡◌, ℕ, Bool, true, false, not, ◌&&◌, ◌||◌, ◌==◌, ◌+◌, ◌-◌, if◌then◌else◌, List, [], ◌∷◌, ◌++◌, length, map, Option, Some, None, slice_get}
 use Rattle.std.specs.List.{list_any, filter}
 use Rattle.lock_needs.specs.rdb_types.declared.keys.Dbkey.{Dbkey}
-use Rattle.rdb_meaning.specs.rdo_ast.declared.reply.Reply.{Reply}
-use Rattle.rdb_meaning.specs.rdo_ast.declared.reply.Reply.TheVariants as r
-use Rattle.rdb_meaning.specs.rdo_ast.declared.reply.Standing.{Standing}
-use Rattle.rdb_meaning.specs.rdo_ast.declared.reply.Standing.TheVariants.{Closed, ReadOnly, ReadWrite}
-use Rattle.rdb_meaning.specs.rdo_ast.Tree.{Uttered, said, start_read_only, start_read_write, perform}
+use Rattle.rdo_ast.specs.declared.reply.Reply.{Reply}
+use Rattle.rdo_ast.specs.declared.reply.Reply.TheVariants as r
+use Rattle.rdo_ast.specs.declared.reply.Standing.{Standing}
+use Rattle.rdo_ast.specs.declared.reply.Standing.TheVariants.{Closed, ReadOnly, ReadWrite}
+use Rattle.rdo_ast.specs.Tree.{Uttered, said, start_read_only, start_read_write, perform}
 use Rattle.rdb_meaning.specs.declared.tables.Tables.{Tables}
 use Rattle.rdb_meaning.specs.Checks.{is_retrieval}
 use Rattle.rdb_meaning.specs.Meaning.{Meaning, means, meaningless, meaning}

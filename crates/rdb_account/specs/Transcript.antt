@@ -6,8 +6,8 @@ use Rattle.lock_needs.specs.rdb_types.declared.values.Value.TheVariants.{Missing
 use Rattle.lock_needs.specs.rdb_types.declared.values.Scaled.{Scaled}
 use Rattle.lock_needs.specs.rdb_types.declared.session.Cause.{Cause}
 use Rattle.lock_needs.specs.rdb_types.declared.session.Cause.TheVariants as cause
-use Rattle.rdb_meaning.specs.rdo_ast.declared.reply.Reply.{Reply}
-use Rattle.rdb_meaning.specs.rdo_ast.declared.reply.Reply.TheVariants as r
+use Rattle.rdo_ast.specs.declared.reply.Reply.{Reply}
+use Rattle.rdo_ast.specs.declared.reply.Reply.TheVariants as r
 use Rattle.rdb_account.specs.declared.event.Event.{Event as Declared}
 use Rattle.rdb_account.specs.Events.{Event, Began, Wanted, Got, Demoted, Said, Committed, RolledBack, Died, Recovered, event_of}
 

@@ -1,8 +1,7 @@
 //! The events of a run.
-use lock_needs::rdb_types::{Cause, Items, Keys, Moment, Node, Session};
-use lock_needs::vms_queues::Mode;
-use rdb_meaning::rdo_ast::reply::{Reply, Standing};
-use rdb_meaning::rdo_ast::syntax::Item;
+use lock_needs::{Cause, Items, Keys, Mode, Moment, Node, Session};
+use rdo_ast::reply::{Reply, Standing};
+use rdo_ast::syntax::Item;
 
 /// One event of a run, with the session that it is of.
 #[derive(Drop)]

@@ -5,8 +5,8 @@ ghost use Rattle.rdb_account.specs.Transcript.{pointed as text_pointed, value_te
 
 use crate::Event;
 use itoa::Buffer;
-use lock_needs::rdb_types::{Bytes, Cause, Chars, NoMemory, Printed, Scaled, Session, Value};
-use rdb_meaning::rdo_ast::reply::Reply;
+use lock_needs::{Bytes, Cause, Chars, NoMemory, Printed, Scaled, Session, Value};
+use rdo_ast::reply::Reply;
 
 /// Adds zeros.
 fn zeros(count: usize, out: &mut Bytes) -> Result<(), NoMemory>

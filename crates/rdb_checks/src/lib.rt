@@ -12,7 +12,7 @@ mod stop;
 mod types;
 mod uses;
 
-pub use rdb_meaning;
+pub use rdb_meaning::{FieldAt, Index, Relation, Tables, field_of, same_name};
 pub use refusal::{check_action, is_retrieval};
 pub use reservations::{
     check_change_reserved, check_index_reserved, check_reserved_names, reservations_of,

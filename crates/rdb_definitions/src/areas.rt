@@ -2,7 +2,7 @@ ghost use Rattle.std.specs.Prelude.{◌≡◌, ◌+◌, length, IfOk};
 ghost use Rattle.rdb_checks.specs.rdb_meaning.Contents.{is_used, first_free, relation_named, new_relation_area, new_index_area};
 ghost use Rattle.rdb_checks.specs.rdb_meaning.Execution.{area_of};
 
-use rdb_checks::rdb_meaning::Tables;
+use rdb_checks::Tables;
 use rdb_types::{Chars, NoMemory};
 use std::alloc::Global;
 

@@ -3,8 +3,7 @@ ghost use Rattle.rdb_checks.specs.rdb_meaning.Defining.{field_names, with_field,
 ghost use Rattle.rdb_checks.specs.Answers.{Finds};
 ghost use Rattle.rdb_definitions.specs.Answers.{Defines};
 
-use rdb_checks::rdb_meaning::{Tables, same_name};
-use rdb_checks::{Stop, exists, no_such};
+use rdb_checks::{Stop, Tables, exists, no_such, same_name};
 use rdb_types::{Chars, Copied, DataType, Field, FieldType, Fields, Items, NoMemory};
 use rdo_ast::syntax::{DefinedType, FieldDefinition};
 use std::alloc::Global;

@@ -4,7 +4,7 @@ ghost use Rattle.rdb_types.specs.Order.{value_order, row_order};
 ghost use Rattle.rdb_checks.specs.rdb_meaning.Contents.{key_of, has_key};
 ghost use Rattle.rdb_checks.specs.rdb_meaning.Defining.{positions_of, longest_at, longest_key, keys_repeat};
 
-use rdb_checks::rdb_meaning::{FieldAt, field_of, same_name};
+use rdb_checks::{FieldAt, field_of, same_name};
 use rdb_types::{Chars, Dbkey, Field, Items, NoMemory, Positions, Row, Value};
 use row_sizes::longest_value;
 use std::alloc::Global;

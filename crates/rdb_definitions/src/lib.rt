@@ -9,7 +9,6 @@ mod relations;
 
 pub use fields::define_field;
 pub use indexes::{check_index_exists, check_index_names, define_index, delete_index};
-pub use rdb_checks;
-pub use rdb_checks::rdb_meaning;
+pub use rdb_checks::{Index, Relation, Stop, Tables, same_name};
 pub use relations::{check_relation_exists, define_relation, delete_relation};
-pub use row_sizes;
+pub use row_sizes::longest_value;

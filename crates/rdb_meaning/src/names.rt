@@ -3,7 +3,7 @@ ghost use Rattle.std.specs.Ordering.{is_eq};
 ghost use Rattle.rdb_meaning.specs.Contents.{same_name};
 ghost use Rattle.ordered_entries.specs.rdb_types.Order.{chars_order};
 
-use ordered_entries::rdb_types::Chars;
+use ordered_entries::Chars;
 
 fn same_bytes(a: &[u8], b: &[u8]) -> bool
     ensures name { result ≡ same_name a.now b.now }

@@ -4,7 +4,7 @@ ghost use Rattle.std.specs.Option.{option_copied};
 ghost use Rattle.rdb_meaning.specs.Evaluation.{bind_source, bound_as};
 
 use crate::same_name;
-use ordered_entries::rdb_types::{Chars, Copied, Dbkey, Items, NoMemory};
+use ordered_entries::{Chars, Copied, Dbkey, Items, NoMemory};
 use rdo_ast::syntax::Range;
 use std::alloc::Global;
 

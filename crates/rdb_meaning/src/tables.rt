@@ -7,9 +7,8 @@ ghost use Rattle.ordered_entries.specs.rdb_types.Order.{chars_order, dbkey_order
 ghost use Rattle.rdb_meaning.specs.Lookups.{place_and_field};
 
 use crate::same_name;
-use ordered_entries::Entries;
-use ordered_entries::rdb_types::{
-    Chars, Copied, Dbkey, Field, FieldType, Fields, NoMemory, Positions, Row,
+use ordered_entries::{
+    Chars, Copied, Dbkey, Entries, Field, FieldType, Fields, NoMemory, Positions, Row,
 };
 use std::alloc::Global;
 

@@ -14,5 +14,7 @@ pub use laws::{
 };
 pub use memory_disk::MemoryDisk;
 pub use memory_streams::{MemorySink, MemorySource};
-pub use rdb_types;
+pub use rdb_types::{
+    Dbkey, FileId, FileKind, Image, Limits, LineState, Moment, NoMemory, Session, Tsn,
+};
 pub use streams::{Failed, Sink, Source};

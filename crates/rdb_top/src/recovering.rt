@@ -5,7 +5,7 @@ ghost use Rattle.rdb_outside.specs.Causes.{Rose};
 ghost use Rattle.rdb_outside.specs.Disk.{OnlyReads};
 ghost use Rattle.database_opening.specs.Others.{KeepsFile};
 ghost use Rattle.command_words.specs.Copies.{copies_in};
-ghost use Rattle.rmu_keeping.specs.rmu_recover.Recovering.{IsOther};
+ghost use Rattle.rmu_recover.specs.Recovering.{IsOther};
 ghost use Rattle.rmu_keeping.specs.Rolling.{is_recover_status, HasRolled, MayBeRecovered, LacksGroup, HasUnfit, IsUsed, Rolls, RollsWithin, TellsGroups};
 
 use command_words::copies_of;

@@ -25,7 +25,7 @@ ghost use Rattle.backup_making.specs.Making.{file_of as backup_named};
 ghost use Rattle.database_opening.specs.Others.{KeepsFile};
 ghost use Rattle.journal_backup.specs.Copied.{copy_named};
 ghost use Rattle.rmu_restore.specs.Laying.{IsOther};
-ghost use Rattle.rmu_keeping.specs.rmu_recover.Recovering.{IsOther as IsBesideRoll};
+ghost use Rattle.rmu_recover.specs.Recovering.{IsOther as IsBesideRoll};
 ghost use Rattle.rmu_keeping.specs.Keeping.{is_keeping_status, IsKept, MayBeOpened, MayBeRestored, BacksUp, BacksUpWithin, CopiesJournal, CopiesJournalWithin, Restores, RestoresWithin};
 ghost use Rattle.rmu_keeping.specs.Rolling.{is_recover_status, HasRolled, MayBeRecovered, LacksGroup, HasUnfit, IsUsed, Rolls, RollsWithin, TellsGroups};
 ghost use Rattle.workload_runs.specs.rmu_commands.Usable.{HasRootInUse, IsUsable, IsDumped};
@@ -61,9 +61,9 @@ use std::marker::{Brand, Send};
 use std::sync::Wait;
 use std::thread::Threads;
 use watched_disk::{Beginning, WatchedDisk};
-use workload_runs::rmu_commands::{dump_command, page_command, verify_command};
 use workload_runs::{
-    Halt, LineRun, Origin, ReservingStatements, Said, say_in_order, say_in_threads,
+    Halt, LineRun, Origin, ReservingStatements, Said, dump_command, page_command, say_in_order,
+    say_in_threads, verify_command,
 };
 
 /// The words of a command that says scripts.

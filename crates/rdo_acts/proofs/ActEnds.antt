@@ -22,11 +22,11 @@ use Rattle.sound_changes.proofs.Basics.{all_of}
 use Rattle.catalog_lines.specs.declared.line.IndexLine.{IndexLine}
 use Rattle.rdb_meaning.specs.Contents.{Row}
 use Rattle.stored_rows.specs.declared.images.Unstored.TheVariants.{TooLong, Misfit}
-use Rattle.served_selections.specs.row_writes.declared.target.TargetRelation.{TargetRelation}
-use Rattle.served_selections.specs.row_writes.declared.stop.PairRefusal.TheVariants.{Duplicate, LongKey, Full}
-use Rattle.served_selections.specs.row_writes.declared.stop.RowRefusal.{RowRefusal}
-use Rattle.served_selections.specs.row_writes.declared.stop.RowRefusal.TheVariants.{NoImage, NoRoom, Pair}
-use Rattle.served_selections.specs.row_writes.Pairs.{CanNotGrow}
+use Rattle.row_writes.specs.declared.target.TargetRelation.{TargetRelation}
+use Rattle.row_writes.specs.declared.stop.PairRefusal.TheVariants.{Duplicate, LongKey, Full}
+use Rattle.row_writes.specs.declared.stop.RowRefusal.{RowRefusal}
+use Rattle.row_writes.specs.declared.stop.RowRefusal.TheVariants.{NoImage, NoRoom, Pair}
+use Rattle.row_writes.specs.Pairs.{CanNotGrow}
 use Rattle.statement_view.specs.Over.{Over, seen_of, all_rooms, AreRoomsKnown, Stands, knows_over, laid_over, writes_of, is_written}
 use Rattle.statement_view.specs.Areas.{is_among, IsNeedOf, WritesOf}
 use Rattle.used_areas.specs.Areas.{areas_read, areas_changed}

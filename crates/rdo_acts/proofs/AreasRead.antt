@@ -19,9 +19,9 @@ use Rattle.schema_alone.specs.Schema.{OneSchema}
 use Rattle.sound_changes.proofs.Schemas.{catalogs_schema}
 use Rattle.statement_view.specs.Over.{Over, knows_over, laid_over}
 use Rattle.statement_view.specs.Areas.{is_among, IsNeedOf, KeepsTo}
-use Rattle.served_selections.specs.row_writes.Rows.{IsSoundView}
-use Rattle.served_selections.specs.row_writes.Stop.{RowStop}
-use Rattle.served_selections.proofs.of_row_writes.AreaLists.{Wider, one_of, first_area, StopsAt, stops_at}
+use Rattle.row_writes.specs.Rows.{IsSoundView}
+use Rattle.row_writes.specs.Stop.{RowStop}
+use Rattle.row_writes.proofs.AreaLists.{Wider, one_of, first_area, StopsAt, stops_at}
 use Rattle.used_areas.specs.Areas.{relation_areas, areas_read, areas_changed}
 use Rattle.used_areas.proofs.Same.{read_same, changed_same}
 use Rattle.rdo_arithmetic.specs.declared.stop.Misfit.{Misfit}
@@ -30,9 +30,9 @@ use Rattle.rdo_values.specs.Tree.{Expression, Ranging}
 use Rattle.rdo_values.specs.Named.{named, named_ranging}
 use Rattle.rdo_values.specs.Places.{IsBound, IsBoundRanging}
 use Rattle.rdo_values.specs.Rows.{variables_of}
-use Rattle.served_selections.specs.rdo_select.SelectStop.{SelectStop}
-use Rattle.served_selections.specs.rdo_select.Readings.{LacksFirst}
-use Rattle.served_selections.specs.rdo_select.Work.{Work as Reading, Does, valuing, selecting}
+use Rattle.rdo_select.specs.SelectStop.{SelectStop}
+use Rattle.rdo_select.specs.Readings.{LacksFirst}
+use Rattle.rdo_select.specs.Work.{Work as Reading, Does, valuing, selecting}
 use Rattle.selection_areas.specs.Areas.{ArePlaced}
 use Rattle.selection_areas.proofs.Used.{expression_lacks, ranging_lacks}
 use Rattle.selection_areas.proofs.Placed.{sources_placed}

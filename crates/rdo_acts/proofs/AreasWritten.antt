@@ -23,11 +23,11 @@ use Rattle.catalog.specs.declared.reading.Catalog.{Catalog}
 use Rattle.sound_changes.specs.Standing.{IsSoundAs}
 use Rattle.statement_view.specs.Over.{Over}
 use Rattle.statement_view.specs.Areas.{is_among, IsNeedOf, WritesOf, KeepsTo}
-use Rattle.served_selections.specs.row_writes.declared.target.TargetRelation.{TargetRelation}
-use Rattle.served_selections.specs.row_writes.Stop.{RowStop}
-use Rattle.served_selections.specs.row_writes.Rows.{IsSoundView}
-use Rattle.served_selections.specs.row_writes.Areas.{areas_with, StoreKeeps, ChangeKeeps, EraseKeeps}
-use Rattle.served_selections.proofs.of_row_writes.AreaLists.{Wider, writes_wider, StopsAt, stops_at}
+use Rattle.row_writes.specs.declared.target.TargetRelation.{TargetRelation}
+use Rattle.row_writes.specs.Stop.{RowStop}
+use Rattle.row_writes.specs.Rows.{IsSoundView}
+use Rattle.row_writes.specs.Areas.{areas_with, StoreKeeps, ChangeKeeps, EraseKeeps}
+use Rattle.row_writes.proofs.AreaLists.{Wider, writes_wider, StopsAt, stops_at}
 use Rattle.selection_areas.specs.stored_schema.Targets.{IsTargetIn}
 use Rattle.used_areas.specs.Areas.{relation_areas, areas_read, areas_changed}
 use Rattle.used_areas.proofs.More.{left_of}

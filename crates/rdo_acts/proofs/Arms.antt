@@ -24,15 +24,15 @@ use Rattle.rdo_bind.specs.declared.action.BoundAction as actions
 use Rattle.rdo_bind.specs.declared.action.BoundAction.{BoundAction}
 use Rattle.rdo_bind.specs.Assigning.{written_assign}
 use Rattle.rdo_bind.specs.Acting.{Act, store, for_each, print, modify, erase, Acts, act_of, acts_of, named_act, named_acts, written_item, IsBoundItem, IsBoundAct}
-use Rattle.served_selections.specs.rdo_select.declared.crossing.Found.{Found}
-use Rattle.served_selections.specs.rdo_select.SelectStop.{SelectStop}
-use Rattle.served_selections.specs.rdo_select.Chosen.{with_behind}
-use Rattle.served_selections.specs.rdo_select.Crossed.{ranges_of}
-use Rattle.served_selections.specs.rdo_select.Sources.{IsShown}
-use Rattle.served_selections.specs.rdo_select.Reasons.{IsSelectReason}
-use Rattle.served_selections.specs.rdo_select.Work.{Does, selecting}
-use Rattle.served_selections.specs.rdo_select.Stops.{Matches, HaveValues}
-use Rattle.served_selections.proofs.of_rdo_select.Matchings.{parts_ranges}
+use Rattle.rdo_select.specs.declared.crossing.Found.{Found}
+use Rattle.rdo_select.specs.SelectStop.{SelectStop}
+use Rattle.rdo_select.specs.Chosen.{with_behind}
+use Rattle.rdo_select.specs.Crossed.{ranges_of}
+use Rattle.rdo_select.specs.Sources.{IsShown}
+use Rattle.rdo_select.specs.Reasons.{IsSelectReason}
+use Rattle.rdo_select.specs.Work.{Does, selecting}
+use Rattle.rdo_select.specs.Stops.{Matches, HaveValues}
+use Rattle.rdo_select.proofs.Matchings.{parts_ranges}
 use Rattle.rdo_acts.specs.declared.stop.Refusal.{Refusal}
 use Rattle.rdo_acts.specs.declared.work.Given.{Given}
 use Rattle.rdo_acts.specs.declared.work.Work.{Work}

@@ -12,14 +12,14 @@ use Rattle.rdb_meaning.specs.Execution.{World, Ran, done, done_all, over}
 use Rattle.line_view.specs.Knowledge.{Lines}
 use Rattle.line_view.specs.Held.{knows}
 use Rattle.view_stages.specs.Stages.{Goes}
-use Rattle.served_selections.specs.row_writes.Rows.{IsSoundView}
+use Rattle.row_writes.specs.Rows.{IsSoundView}
 use Rattle.rdo_values.specs.declared.bound.BoundRange.{BoundRange}
 use Rattle.rdo_values.specs.Rows.{row_of}
 use Rattle.rdo_bind.specs.declared.action.BoundAction.{BoundAction}
 use Rattle.rdo_bind.specs.Acting.{act_of, acts_of, named_act, named_acts}
-use Rattle.served_selections.specs.rdo_select.declared.crossing.Found.{Found}
-use Rattle.served_selections.specs.rdo_select.Crossed.{ranges_of}
-use Rattle.served_selections.specs.rdo_select.Stops.{HaveValues}
+use Rattle.rdo_select.specs.declared.crossing.Found.{Found}
+use Rattle.rdo_select.specs.Crossed.{ranges_of}
+use Rattle.rdo_select.specs.Stops.{HaveValues}
 use Rattle.rdo_acts.specs.declared.work.Given.{Given}
 use Rattle.rdo_acts.specs.declared.work.Work.{Work}
 use Rattle.rdo_acts.specs.Ends.{ActStop, stage, HoldsIn, Ends, Runs}

@@ -12,7 +12,7 @@ use Rattle.rdb_meaning.specs.Evaluation.{Scope, bind_source, bindings_of, bind_t
 use Rattle.rdo_values.specs.declared.bound.BoundRange.{BoundRange}
 use Rattle.rdo_values.specs.Rows.{variable_of, variables_of}
 use Rattle.rdo_values.specs.Places.{IsRangeOf, AreRanges}
-use Rattle.served_selections.specs.rdo_select.Crossed.{ranges_of}
+use Rattle.rdo_select.specs.Crossed.{ranges_of}
 use Rattle.rdo_acts.specs.declared.scope.BoundRow.{BoundRow}
 use Rattle.rdo_acts.specs.Scopes.{binding_of, scope_of, AreRowsOf}
 

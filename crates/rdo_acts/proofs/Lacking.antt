@@ -16,8 +16,8 @@ use Rattle.sound_changes.specs.Standing.{IsSoundAs}
 use Rattle.sound_changes.proofs.Schemas.{catalogs_schema}
 use Rattle.bound_actions.proofs.Same.{act_same}
 use Rattle.statement_view.specs.Over.{Over, Stands, knows_over, laid_over}
-use Rattle.served_selections.specs.row_writes.Rows.{IsSoundView}
-use Rattle.served_selections.proofs.of_row_writes.AreaLists.{StopsAt, stops_at}
+use Rattle.row_writes.specs.Rows.{IsSoundView}
+use Rattle.row_writes.proofs.AreaLists.{StopsAt, stops_at}
 use Rattle.rdo_values.specs.declared.bound.BoundSelection.{BoundSelection}
 use Rattle.rdo_values.specs.declared.bound.BoundRange.{BoundRange}
 use Rattle.rdo_values.specs.Tree.{Expression, Ranging}
@@ -28,12 +28,12 @@ use Rattle.rdo_bind.specs.declared.action.BoundAction.{BoundAction}
 use Rattle.rdo_bind.specs.declared.action.BoundPrintItem.{BoundPrintItem}
 use Rattle.rdo_bind.specs.declared.action.BoundPrintItem.TheVariants.{Value, Fields}
 use Rattle.rdo_bind.specs.Acting.{Act, Acts, for_each, act_of, acts_of, IsBoundAct}
-use Rattle.served_selections.specs.rdo_select.declared.crossing.Found.{Found}
-use Rattle.served_selections.specs.rdo_select.SelectStop.{SelectStop}
-use Rattle.served_selections.specs.rdo_select.Sources.{Listed, IsShown}
-use Rattle.served_selections.specs.rdo_select.Stops.{HaveValues}
-use Rattle.served_selections.specs.rdo_select.Readings.{LacksFirst}
-use Rattle.served_selections.specs.rdo_select.Work.{Work as Reading, Does, valuing, selecting}
+use Rattle.rdo_select.specs.declared.crossing.Found.{Found}
+use Rattle.rdo_select.specs.SelectStop.{SelectStop}
+use Rattle.rdo_select.specs.Sources.{Listed, IsShown}
+use Rattle.rdo_select.specs.Stops.{HaveValues}
+use Rattle.rdo_select.specs.Readings.{LacksFirst}
+use Rattle.rdo_select.specs.Work.{Work as Reading, Does, valuing, selecting}
 use Rattle.served_selections.specs.Ranges.{Chosen, chosen_in, chosen_in_ranging}
 use Rattle.served_selections.proofs.Lists.{any_left, any_right}
 use Rattle.served_selections.proofs.Lacked.{expression_lacks, selection_lacks}

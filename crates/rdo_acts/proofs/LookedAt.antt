@@ -34,9 +34,9 @@ use Rattle.rdo_values.specs.declared.bound.BoundRange.{BoundRange}
 use Rattle.rdo_values.specs.Tree.{Conjunction}
 use Rattle.rdo_values.specs.Places.{AreRanges, IsRangeOf}
 use Rattle.rdo_values.specs.Rows.{row_of}
-use Rattle.served_selections.specs.rdo_select.declared.source.Source.{Source}
-use Rattle.served_selections.specs.rdo_select.Sources.{Listed, source_at, HasSource, IsSourceOf, IsShown}
-use Rattle.served_selections.specs.rdo_select.Work.{is_read_once}
+use Rattle.rdo_select.specs.declared.source.Source.{Source}
+use Rattle.rdo_select.specs.Sources.{Listed, source_at, HasSource, IsSourceOf, IsShown}
+use Rattle.rdo_select.specs.Work.{is_read_once}
 use Rattle.served_selections.specs.Ranges.{Chosen, chosen_from}
 use Rattle.served_selections.specs.Served.{access_behind, ReadsBy, IsReadByIndex}
 use Rattle.served_selections.proofs.Along.{IsRowOf, one_more_variable, rows_of_source}

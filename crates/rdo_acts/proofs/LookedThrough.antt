@@ -23,10 +23,10 @@ use Rattle.rdo_bind.specs.declared.action.BoundAction.{BoundAction}
 use Rattle.rdo_bind.specs.declared.action.BoundPrintItem.{BoundPrintItem}
 use Rattle.rdo_bind.specs.declared.action.BoundPrintItem.TheVariants.{Value, Fields}
 use Rattle.rdo_bind.specs.Acting.{act_of, acts_of, IsBoundItem}
-use Rattle.served_selections.specs.rdo_select.declared.crossing.Found.{Found}
-use Rattle.served_selections.specs.rdo_select.Chosen.{sole_tests}
-use Rattle.served_selections.specs.rdo_select.Sources.{Listed}
-use Rattle.served_selections.specs.rdo_select.Stops.{HaveValues}
+use Rattle.rdo_select.specs.declared.crossing.Found.{Found}
+use Rattle.rdo_select.specs.Chosen.{sole_tests}
+use Rattle.rdo_select.specs.Sources.{Listed}
+use Rattle.rdo_select.specs.Stops.{HaveValues}
 use Rattle.served_selections.specs.Ranges.{Chosen, chosen_from, chosen_in, chosen_in_condition, chosen_in_ranging}
 use Rattle.served_selections.proofs.Lists.{any_left, any_right}
 use Rattle.index_ahead.specs.Added.{AddsOnly}

@@ -24,13 +24,13 @@ use Rattle.index_rows.proofs.Losing.{loses_none}
 use Rattle.index_rows.proofs.Wide.{rows_wide}
 use Rattle.sorted_index_laws.specs.Search.{first_unknown}
 use Rattle.sorted_index_laws.specs.Keys.{only, between}
-use Rattle.served_selections.specs.rdo_select.declared.source.Source.{Source}
-use Rattle.served_selections.specs.rdo_select.SelectStop.{SelectStop}
-use Rattle.served_selections.specs.rdo_select.Sources.{Listed, IsSourceOf, IsAccessOf, IsNextOf}
-use Rattle.served_selections.specs.rdo_select.Readings.{failure}
-use Rattle.served_selections.specs.rdo_select.Reasons.{IsSelectReason}
-use Rattle.served_selections.specs.rdo_select.Stops.{GivesOr}
-use Rattle.served_selections.specs.rdo_select.Work.{Work, Does}
+use Rattle.rdo_select.specs.declared.source.Source.{Source}
+use Rattle.rdo_select.specs.SelectStop.{SelectStop}
+use Rattle.rdo_select.specs.Sources.{Listed, IsSourceOf, IsAccessOf, IsNextOf}
+use Rattle.rdo_select.specs.Readings.{failure}
+use Rattle.rdo_select.specs.Reasons.{IsSelectReason}
+use Rattle.rdo_select.specs.Stops.{GivesOr}
+use Rattle.rdo_select.specs.Work.{Work, Does}
 use Rattle.selection_areas.specs.statement_sources.Sources.{AreOfTables}
 use Rattle.rdo_acts.specs.Ends.{Computes}
 

@@ -12,7 +12,7 @@ use Rattle.rdb_meaning.specs.Execution.{Assigned, assigned, assign}
 use Rattle.line_view.specs.Knowledge.{Lines}
 use Rattle.catalog.specs.declared.reading.Catalog.{Catalog}
 use Rattle.statement_view.specs.Over.{Over}
-use Rattle.served_selections.specs.row_writes.Rows.{IsSoundView}
+use Rattle.row_writes.specs.Rows.{IsSoundView}
 use Rattle.rdo_values.specs.Rows.{values_of, row_of, variables_of}
 use Rattle.rdo_bind.specs.declared.assign.BoundAssign.{BoundAssign}
 use Rattle.rdo_bind.specs.Assigning.{written_assign, IsBoundAssign}

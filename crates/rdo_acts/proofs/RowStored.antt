@@ -23,12 +23,12 @@ use Rattle.statement_view.specs.Over.{Over, laid_over, all_rooms, AreRoomsKnown}
 use Rattle.schema_alone.specs.Schema.{bare}
 use Rattle.view_stages.specs.Stages.{Goes}
 use Rattle.stored_rows.specs.declared.images.Unstored.TheVariants as unstored
-use Rattle.served_selections.specs.row_writes.declared.target.TargetRelation.{TargetRelation}
-use Rattle.served_selections.specs.row_writes.declared.stop.PairRefusal.TheVariants as pair
-use Rattle.served_selections.specs.row_writes.declared.stop.RowRefusal.{RowRefusal}
-use Rattle.served_selections.specs.row_writes.declared.stop.RowRefusal.TheVariants.{NoImage, NoRoom, Pair}
-use Rattle.served_selections.specs.row_writes.Stop.{RowStop}
-use Rattle.served_selections.specs.row_writes.Rows.{IsSoundView, IsStored, IsNotStored, taken_by_another, StoresRow}
+use Rattle.row_writes.specs.declared.target.TargetRelation.{TargetRelation}
+use Rattle.row_writes.specs.declared.stop.PairRefusal.TheVariants as pair
+use Rattle.row_writes.specs.declared.stop.RowRefusal.{RowRefusal}
+use Rattle.row_writes.specs.declared.stop.RowRefusal.TheVariants.{NoImage, NoRoom, Pair}
+use Rattle.row_writes.specs.Stop.{RowStop}
+use Rattle.row_writes.specs.Rows.{IsSoundView, IsStored, IsNotStored, taken_by_another, StoresRow}
 use Rattle.rdo_values.specs.declared.bound.BoundRange.{BoundRange}
 use Rattle.rdo_values.specs.Rows.{row_of, variables_of}
 use Rattle.rdo_bind.specs.declared.assign.BoundAssign.{BoundAssign}

@@ -29,12 +29,12 @@ use Rattle.relation_rows.specs.Relations.{HasRows}
 use Rattle.statement_view.specs.Over.{Over, knows_over, laid_over}
 use Rattle.view_stages.specs.Stages.{Goes}
 use Rattle.stored_rows.specs.declared.images.Unstored.TheVariants as unstored
-use Rattle.served_selections.specs.row_writes.declared.target.TargetRelation.{TargetRelation}
-use Rattle.served_selections.specs.row_writes.declared.stop.PairRefusal.TheVariants as pair
-use Rattle.served_selections.specs.row_writes.declared.stop.RowRefusal.{RowRefusal}
-use Rattle.served_selections.specs.row_writes.declared.stop.RowRefusal.TheVariants.{NoImage, NoRoom, Pair}
-use Rattle.served_selections.specs.row_writes.Stop.{RowStop}
-use Rattle.served_selections.specs.row_writes.Rows.{IsSoundView, IsChanged, IsNotChanged, taken_by_another, ChangesRow, ErasesRow}
+use Rattle.row_writes.specs.declared.target.TargetRelation.{TargetRelation}
+use Rattle.row_writes.specs.declared.stop.PairRefusal.TheVariants as pair
+use Rattle.row_writes.specs.declared.stop.RowRefusal.{RowRefusal}
+use Rattle.row_writes.specs.declared.stop.RowRefusal.TheVariants.{NoImage, NoRoom, Pair}
+use Rattle.row_writes.specs.Stop.{RowStop}
+use Rattle.row_writes.specs.Rows.{IsSoundView, IsChanged, IsNotChanged, taken_by_another, ChangesRow, ErasesRow}
 use Rattle.rdo_values.specs.Places.{IsRangeOf}
 use Rattle.rdo_values.specs.Rows.{row_of, variables_of}
 use Rattle.rdo_bind.specs.declared.assign.BoundAssign.{BoundAssign}

@@ -19,8 +19,8 @@ use Rattle.sound_changes.proofs.Basics.{number_is}
 use Rattle.sound_changes.proofs.Given.{all_others}
 use Rattle.sound_changes.proofs.PairsOut.{left}
 use Rattle.sound_changes.proofs.RowLaid.{found}
-use Rattle.served_selections.specs.row_writes.declared.target.TargetRelation.{TargetRelation}
-use Rattle.served_selections.specs.row_writes.Target.{IsTarget}
+use Rattle.row_writes.specs.declared.target.TargetRelation.{TargetRelation}
+use Rattle.row_writes.specs.Target.{IsTarget}
 use Rattle.selection_areas.proofs.of_statement_sources.Read.{rows}
 use Rattle.rdo_acts.proofs.RowFound.{none_beside}
 

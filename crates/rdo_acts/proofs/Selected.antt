@@ -16,7 +16,7 @@ use Rattle.sound_changes.proofs.Schemas.{catalogs_schema}
 use Rattle.bound_actions.proofs.Same.{act_same}
 use Rattle.statement_view.specs.Over.{knows_over, laid_over}
 use Rattle.view_stages.specs.Stages.{refusing}
-use Rattle.served_selections.specs.row_writes.Rows.{IsSoundView}
+use Rattle.row_writes.specs.Rows.{IsSoundView}
 use Rattle.rdo_values.specs.declared.bound.BoundSelection.{BoundSelection}
 use Rattle.rdo_values.specs.Tree.{Ranging, ranging}
 use Rattle.rdo_values.specs.Views.{ranging_of}
@@ -25,12 +25,12 @@ use Rattle.rdo_values.specs.Rows.{row_of, variables_of}
 use Rattle.rdo_values.specs.Places.{ranges_in}
 use Rattle.rdo_values.specs.Selections.{written_clause, IsBoundSelection}
 use Rattle.rdo_bind.specs.Acting.{for_each, Acts, named_act, named_acts, IsBoundAct}
-use Rattle.served_selections.specs.rdo_select.declared.crossing.Found.{Found}
-use Rattle.served_selections.specs.rdo_select.SelectStop.{SelectStop}
-use Rattle.served_selections.specs.rdo_select.Sources.{IsShown}
-use Rattle.served_selections.specs.rdo_select.Stops.{Matches}
-use Rattle.served_selections.specs.rdo_select.Reasons.{IsSelectReason}
-use Rattle.served_selections.specs.rdo_select.Work.{Does, selecting}
+use Rattle.rdo_select.specs.declared.crossing.Found.{Found}
+use Rattle.rdo_select.specs.SelectStop.{SelectStop}
+use Rattle.rdo_select.specs.Sources.{IsShown}
+use Rattle.rdo_select.specs.Stops.{Matches}
+use Rattle.rdo_select.specs.Reasons.{IsSelectReason}
+use Rattle.rdo_select.specs.Work.{Does, selecting}
 use Rattle.rdo_acts.specs.declared.work.Given.{Given}
 use Rattle.rdo_acts.specs.declared.work.Work.{Work}
 use Rattle.rdo_acts.specs.Ends.{ActStop, GoTogether, stage, HoldsIn, Computes, Ends}

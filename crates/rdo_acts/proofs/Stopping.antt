@@ -13,13 +13,13 @@ use Rattle.line_view.specs.Knowledge.{Knowledge, Lines}
 use Rattle.line_view.specs.Held.{knows}
 use Rattle.line_view.specs.Stops.{Stops, Lacks}
 use Rattle.statement_view.specs.Over.{Over, knows_over, laid_over}
-use Rattle.served_selections.specs.row_writes.Rows.{IsSoundView}
+use Rattle.row_writes.specs.Rows.{IsSoundView}
 use Rattle.rdo_values.specs.Tree.{Expression}
 use Rattle.rdo_values.specs.Named.{named}
-use Rattle.served_selections.specs.rdo_select.SelectStop.{SelectStop}
-use Rattle.served_selections.specs.rdo_select.Reasons.{IsSelectReason}
-use Rattle.served_selections.specs.rdo_select.Stops.{Obtains}
-use Rattle.served_selections.specs.rdo_select.Work.{Does, valuing}
+use Rattle.rdo_select.specs.SelectStop.{SelectStop}
+use Rattle.rdo_select.specs.Reasons.{IsSelectReason}
+use Rattle.rdo_select.specs.Stops.{Obtains}
+use Rattle.rdo_select.specs.Work.{Does, valuing}
 use Rattle.rdo_acts.specs.declared.stop.Refusal.{Refusal}
 use Rattle.rdo_acts.specs.declared.stop.Refusal.TheVariants.{Overflow}
 use Rattle.rdo_acts.specs.declared.work.Given.{Given}

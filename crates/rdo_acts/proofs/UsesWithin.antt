@@ -9,7 +9,7 @@ use Rattle.line_view.specs.declared.need.Need.TheVariants.{Line, Area, Room}
 use Rattle.line_view.specs.declared.stop.Stop.{Stop}
 use Rattle.statement_view.specs.Over.{Over}
 use Rattle.statement_view.specs.Areas.{IsNeedOf}
-use Rattle.served_selections.proofs.of_row_writes.AreaLists.{Wider, writes_wider, StopsAt, stops_at}
+use Rattle.row_writes.proofs.AreaLists.{Wider, writes_wider, StopsAt, stops_at}
 use Rattle.used_areas.specs.Areas.{relation_areas, areas_read, areas_changed}
 use Rattle.used_areas.proofs.More.{left_of, right_of, either, read_left, read_right, changed_left, changed_right}
 use Rattle.rdo_values.specs.Views.{expression_of}

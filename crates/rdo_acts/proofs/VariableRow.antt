@@ -17,14 +17,14 @@ use Rattle.rdb_meaning.specs.Evaluation.{Scope, row_now}
 use Rattle.line_view.specs.Knowledge.{Lines, lines_in}
 use Rattle.statement_view.specs.Over.{Over, laid_over}
 use Rattle.relation_rows.specs.Relations.{stored_row, HasRows}
-use Rattle.served_selections.specs.row_writes.Rows.{IsSoundView}
+use Rattle.row_writes.specs.Rows.{IsSoundView}
 use Rattle.sound_changes.proofs.Schemas.{catalogs_schema}
 use Rattle.rdo_values.specs.declared.bound.BoundRange.{BoundRange}
 use Rattle.rdo_values.specs.Rows.{values_of, row_or_none, row_of}
 use Rattle.rdo_values.specs.Places.{IsRangeOf}
-use Rattle.served_selections.specs.rdo_select.declared.source.Source.{Source}
-use Rattle.served_selections.specs.rdo_select.Sources.{source_at, IsSourceOf, HasSource}
-use Rattle.served_selections.proofs.of_rdo_select.RowsAtHand.{IsWhole, all_whole}
+use Rattle.rdo_select.specs.declared.source.Source.{Source}
+use Rattle.rdo_select.specs.Sources.{source_at, IsSourceOf, HasSource}
+use Rattle.rdo_select.proofs.RowsAtHand.{IsWhole, all_whole}
 use Rattle.bound_alone.proofs.Same.{range}
 use Rattle.rdo_acts.specs.declared.scope.BoundRow.{BoundRow}
 use Rattle.rdo_acts.specs.declared.work.Given.{Given}

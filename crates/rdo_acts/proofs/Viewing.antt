@@ -10,10 +10,10 @@ use Rattle.schema_alone.specs.Schema.{OneSchema}
 use Rattle.sound_changes.specs.Standing.{IsSoundAs}
 use Rattle.sound_changes.proofs.Schemas.{catalogs_schema}
 use Rattle.statement_view.specs.Over.{Over, knows_over, laid_over, writes_of}
-use Rattle.served_selections.specs.row_writes.Rows.{IsSoundView}
+use Rattle.row_writes.specs.Rows.{IsSoundView}
 use Rattle.rdo_values.specs.declared.bound.BoundRange.{BoundRange}
 use Rattle.rdo_values.specs.Places.{IsRangeOf}
-use Rattle.served_selections.specs.rdo_select.Sources.{IsShown}
+use Rattle.rdo_select.specs.Sources.{IsShown}
 use Rattle.rdo_acts.specs.declared.work.Given.{Given}
 use Rattle.rdo_acts.specs.declared.work.Work.{Work}
 use Rattle.rdo_acts.specs.Ends.{GoTogether, stage, HoldsIn}

@@ -11,7 +11,7 @@ use Rattle.sound_changes.proofs.Basics.{all_of}
 use Rattle.sound_changes.proofs.Schemas.{catalogs_schema}
 use Rattle.bound_actions.proofs.Same.{act_same}
 use Rattle.rdo_bind.specs.Acting.{Act, IsBoundAct}
-use Rattle.served_selections.specs.rdo_select.Sources.{Listed}
+use Rattle.rdo_select.specs.Sources.{Listed}
 use Rattle.rdo_acts.specs.declared.work.Given.{Given}
 use Rattle.rdo_acts.specs.declared.work.Work.{Work}
 use Rattle.rdo_acts.specs.declared.acting.Outcome.{Outcome}

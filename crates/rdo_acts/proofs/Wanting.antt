@@ -23,10 +23,10 @@ use Rattle.catalog.specs.declared.reading.Catalog.{Catalog}
 use Rattle.sorted_index_laws.specs.Nodes.{AnyByRecursion}
 use Rattle.statement_view.specs.Over.{Over, Stands, knows_over}
 use Rattle.statement_view.specs.Areas.{is_among}
-use Rattle.served_selections.specs.row_writes.declared.target.TargetRelation.{TargetRelation}
-use Rattle.served_selections.specs.row_writes.Rows.{IsSoundView}
-use Rattle.served_selections.specs.row_writes.Areas.{areas_of, IsNodeOf}
-use Rattle.served_selections.proofs.of_row_writes.AreaLists.{StopsAt, stops_at}
+use Rattle.row_writes.specs.declared.target.TargetRelation.{TargetRelation}
+use Rattle.row_writes.specs.Rows.{IsSoundView}
+use Rattle.row_writes.specs.Areas.{areas_of, IsNodeOf}
+use Rattle.row_writes.proofs.AreaLists.{StopsAt, stops_at}
 use Rattle.selection_areas.specs.stored_schema.Targets.{IsTargetIn}
 use Rattle.selection_areas.proofs.Placed.{target_placed}
 use Rattle.rdo_values.specs.declared.bound.BoundSelection.{BoundSelection}
@@ -42,11 +42,11 @@ use Rattle.rdo_bind.specs.declared.action.BoundPrintItem.{BoundPrintItem}
 use Rattle.rdo_bind.specs.Acting.{Act, print, for_each, Acts, act_of, acts_of, IsBoundAct}
 use Rattle.rdo_bind.proofs.Lists.{variables_behind}
 use Rattle.bound_actions.proofs.Same.{act_same}
-use Rattle.served_selections.specs.rdo_select.declared.crossing.Found.{Found}
-use Rattle.served_selections.specs.rdo_select.SelectStop.{SelectStop}
-use Rattle.served_selections.specs.rdo_select.Sources.{Listed, IsShown}
-use Rattle.served_selections.specs.rdo_select.Stops.{Matches, HaveValues}
-use Rattle.served_selections.specs.rdo_select.Work.{Does, selecting}
+use Rattle.rdo_select.specs.declared.crossing.Found.{Found}
+use Rattle.rdo_select.specs.SelectStop.{SelectStop}
+use Rattle.rdo_select.specs.Sources.{Listed, IsShown}
+use Rattle.rdo_select.specs.Stops.{Matches, HaveValues}
+use Rattle.rdo_select.specs.Work.{Does, selecting}
 use Rattle.served_selections.specs.Ranges.{Chosen, chosen_in, chosen_in_ranging}
 use Rattle.rdo_acts.specs.declared.scope.BoundRow.{BoundRow}
 use Rattle.rdo_acts.specs.declared.stop.Refusal.{Refusal}

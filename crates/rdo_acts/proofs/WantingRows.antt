@@ -16,11 +16,11 @@ use Rattle.line_view.specs.declared.stop.Stop.{Stop}
 use Rattle.line_view.specs.Knowledge.{Lines}
 use Rattle.line_view.specs.Stops.{of_view}
 use Rattle.sound_changes.specs.Standing.{IsSoundAs}
-use Rattle.served_selections.specs.row_writes.declared.target.TargetRelation.{TargetRelation}
-use Rattle.served_selections.specs.row_writes.Stop.{RowStop}
-use Rattle.served_selections.specs.row_writes.Rows.{IsSoundView}
-use Rattle.served_selections.specs.row_writes.Areas.{areas_of, areas_with, IsNodeOf, StoreNodes, ChangeNodes, EraseNodes}
-use Rattle.served_selections.proofs.of_row_writes.AreaLists.{StopsAt, stops_at}
+use Rattle.row_writes.specs.declared.target.TargetRelation.{TargetRelation}
+use Rattle.row_writes.specs.Stop.{RowStop}
+use Rattle.row_writes.specs.Rows.{IsSoundView}
+use Rattle.row_writes.specs.Areas.{areas_of, areas_with, IsNodeOf, StoreNodes, ChangeNodes, EraseNodes}
+use Rattle.row_writes.proofs.AreaLists.{StopsAt, stops_at}
 use Rattle.selection_areas.specs.stored_schema.Targets.{IsTargetIn}
 use Rattle.rdo_values.specs.declared.bound.BoundRange.{BoundRange}
 use Rattle.rdo_values.specs.Rows.{variables_of}

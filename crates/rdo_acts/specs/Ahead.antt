@@ -15,7 +15,7 @@ use Rattle.rdo_values.specs.Views.{ranging_of}
 use Rattle.rdo_values.specs.Named.{named_ranging}
 use Rattle.rdo_values.specs.Selections.{written_clause}
 use Rattle.rdo_bind.specs.Acting.{Act, store, for_each, Acts, no_act, act}
-use Rattle.served_selections.specs.rdo_select.Sources.{Listed}
+use Rattle.rdo_select.specs.Sources.{Listed}
 use Rattle.served_selections.specs.Served.{IsReadByIndex}
 use Rattle.rdo_acts.specs.declared.work.Given.{Given}
 use Rattle.rdo_acts.specs.declared.acting.Outcome.{Outcome}

@@ -17,8 +17,8 @@ use Rattle.statement_view.specs.Areas.{is_among, IsNeedOf, KeepsTo}
 use Rattle.used_areas.specs.Areas.{areas_read, areas_changed}
 use Rattle.rdo_values.specs.Rows.{row_of, variables_of}
 use Rattle.rdo_bind.specs.Acting.{Act, Acts, named_act, named_acts}
-use Rattle.served_selections.specs.rdo_select.declared.crossing.Found.{Found}
-use Rattle.served_selections.specs.rdo_select.Stops.{HaveValues}
+use Rattle.rdo_select.specs.declared.crossing.Found.{Found}
+use Rattle.rdo_select.specs.Stops.{HaveValues}
 use Rattle.rdo_acts.specs.declared.work.Given.{Given}
 use Rattle.rdo_acts.specs.declared.work.Work.{Work}
 use Rattle.rdo_acts.specs.declared.acting.Outcome.{Outcome}

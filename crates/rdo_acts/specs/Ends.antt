@@ -19,9 +19,9 @@ use Rattle.statement_view.specs.Over.{Over, knows_over, writes_of}
 use Rattle.view_stages.specs.Stages.{Stage, Holds, Goes, refusing}
 use Rattle.rdo_values.specs.Rows.{row_of}
 use Rattle.rdo_ast.specs.declared.syntax.Range.{Range}
-use Rattle.served_selections.specs.rdo_select.declared.crossing.Found.{Found}
-use Rattle.served_selections.specs.rdo_select.Stops.{HaveValues}
-use Rattle.served_selections.specs.rdo_select.Sources.{source_at, AreSourcesOf}
+use Rattle.rdo_select.specs.declared.crossing.Found.{Found}
+use Rattle.rdo_select.specs.Stops.{HaveValues}
+use Rattle.rdo_select.specs.Sources.{source_at, AreSourcesOf}
 use Rattle.selection_areas.specs.statement_sources.Sources.{AreOfTables, AreIndexed}
 use Rattle.rdo_acts.specs.declared.stop.Refusal.{Refusal}
 use Rattle.rdo_acts.specs.declared.stop.Refusal.TheVariants.{Overflow, TooLong, Duplicate, Unwritten}

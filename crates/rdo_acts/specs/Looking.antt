@@ -24,8 +24,8 @@ use Rattle.rdo_values.specs.Views.{ranging_of}
 use Rattle.rdo_values.specs.Named.{named_ranging}
 use Rattle.rdo_values.specs.Rows.{row_of, variables_of}
 use Rattle.rdo_values.specs.Selections.{written_clause}
-use Rattle.served_selections.specs.rdo_select.declared.source.Source.{Source}
-use Rattle.served_selections.specs.rdo_select.Sources.{Listed, IsShown}
+use Rattle.rdo_select.specs.declared.source.Source.{Source}
+use Rattle.rdo_select.specs.Sources.{Listed, IsShown}
 use Rattle.served_selections.specs.Ranges.{Chosen}
 use Rattle.served_selections.specs.Served.{ReadsBy, IsReadByIndex}
 use Rattle.rdo_bind.specs.Acting.{Act, IsBoundAct}

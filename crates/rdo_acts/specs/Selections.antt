@@ -10,7 +10,7 @@ use Rattle.line_view.specs.Knowledge.{Knowledge, Lines, Agrees}
 use Rattle.line_view.specs.Stops.{Answers}
 use Rattle.sorted_index_laws.specs.Nodes.{AnyByRecursion}
 use Rattle.sound_changes.specs.Standing.{IsSoundAs}
-use Rattle.served_selections.specs.row_writes.Rows.{IsSoundView}
+use Rattle.row_writes.specs.Rows.{IsSoundView}
 use Rattle.rdo_values.specs.Views.{expression_of, ranging_of}
 use Rattle.rdo_values.specs.Places.{ranges_in}
 use Rattle.rdo_values.specs.Rows.{row_of}
@@ -18,9 +18,9 @@ use Rattle.rdo_bind.specs.declared.assign.BoundAssign.{BoundAssign}
 use Rattle.rdo_bind.specs.declared.action.BoundPrintItem.{BoundPrintItem}
 use Rattle.rdo_bind.specs.declared.action.BoundPrintItem.TheVariants.{Value, Fields}
 use Rattle.rdo_bind.specs.Acting.{Act, store, for_each, print, modify, erase, Acts, no_act, act}
-use Rattle.served_selections.specs.rdo_select.declared.crossing.Found.{Found}
-use Rattle.served_selections.specs.rdo_select.Sources.{Listed}
-use Rattle.served_selections.specs.rdo_select.Stops.{HaveValues}
+use Rattle.rdo_select.specs.declared.crossing.Found.{Found}
+use Rattle.rdo_select.specs.Sources.{Listed}
+use Rattle.rdo_select.specs.Stops.{HaveValues}
 use Rattle.served_selections.specs.Ranges.{Chosen, chosen_in, chosen_in_ranging}
 use Rattle.served_selections.specs.Served.{IsReadFor}
 use Rattle.rdo_acts.specs.declared.work.Given.{Given}

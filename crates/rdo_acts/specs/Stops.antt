@@ -5,12 +5,12 @@ use Rattle.line_view.specs.declared.stop.Stop.TheVariants.{Missing, Bad, NoMemor
 use Rattle.catalog_lines.specs.declared.line.IndexLine.{IndexLine}
 use Rattle.rdo_arithmetic.specs.declared.stop.Misfit.{Misfit}
 use Rattle.rdo_arithmetic.specs.declared.stop.Misfit.TheVariants as misfit
-use Rattle.served_selections.specs.rdo_select.SelectStop.{SelectStop}
+use Rattle.rdo_select.specs.SelectStop.{SelectStop}
 use Rattle.stored_rows.specs.declared.images.Unstored.TheVariants as unstored
-use Rattle.served_selections.specs.row_writes.declared.stop.PairRefusal.TheVariants as pair
-use Rattle.served_selections.specs.row_writes.declared.stop.RowRefusal.{RowRefusal}
-use Rattle.served_selections.specs.row_writes.declared.stop.RowRefusal.TheVariants.{NoImage, NoRoom, Pair}
-use Rattle.served_selections.specs.row_writes.Stop.{RowStop}
+use Rattle.row_writes.specs.declared.stop.PairRefusal.TheVariants as pair
+use Rattle.row_writes.specs.declared.stop.RowRefusal.{RowRefusal}
+use Rattle.row_writes.specs.declared.stop.RowRefusal.TheVariants.{NoImage, NoRoom, Pair}
+use Rattle.row_writes.specs.Stop.{RowStop}
 use Rattle.rdo_acts.specs.declared.stop.Refusal.{Refusal}
 use Rattle.rdo_acts.specs.declared.stop.Refusal.TheVariants.{Overflow, TooLong, Unwritten}
 use Rattle.rdo_acts.specs.Ends.{ActStop, reply_of}

@@ -16,12 +16,12 @@ use Rattle.statement_view.specs.Over.{all_rooms, AreRoomsKnown}
 use Rattle.view_stages.specs.Stages.{Stage, Goes}
 use Rattle.stored_rows.specs.declared.images.Unstored.TheVariants.{TooLong, Misfit}
 use Rattle.stored_rows.specs.Fitting.{IsRowFor}
-use Rattle.served_selections.specs.row_writes.declared.target.TargetRelation.{TargetRelation}
-use Rattle.served_selections.specs.row_writes.declared.stop.PairRefusal.TheVariants.{Duplicate, LongKey, Full}
-use Rattle.served_selections.specs.row_writes.declared.stop.RowRefusal.{RowRefusal}
-use Rattle.served_selections.specs.row_writes.declared.stop.RowRefusal.TheVariants.{NoImage, NoRoom, Pair}
-use Rattle.served_selections.specs.row_writes.Target.{IsTarget}
-use Rattle.served_selections.specs.row_writes.Pairs.{CanNotGrow, IsLongKey}
+use Rattle.row_writes.specs.declared.target.TargetRelation.{TargetRelation}
+use Rattle.row_writes.specs.declared.stop.PairRefusal.TheVariants.{Duplicate, LongKey, Full}
+use Rattle.row_writes.specs.declared.stop.RowRefusal.{RowRefusal}
+use Rattle.row_writes.specs.declared.stop.RowRefusal.TheVariants.{NoImage, NoRoom, Pair}
+use Rattle.row_writes.specs.Target.{IsTarget}
+use Rattle.row_writes.specs.Pairs.{CanNotGrow, IsLongKey}
 
 -- the index at this place is so
 abbrev pub IsIndexAt : TargetRelation → ℕ → (IndexLine → Type 0) → Type 0

@@ -24,9 +24,9 @@ use Rattle.rdo_values.specs.Places.{ranges_in}
 use Rattle.rdo_values.specs.Rows.{row_of, variables_of}
 use Rattle.rdo_values.specs.Selections.{written_clause}
 use Rattle.rdo_bind.specs.Acting.{Act, store, for_each, print, modify, erase, Acts, no_act, act}
-use Rattle.served_selections.specs.rdo_select.declared.crossing.Found.{Found}
-use Rattle.served_selections.specs.rdo_select.Sources.{Listed}
-use Rattle.served_selections.specs.rdo_select.Stops.{HaveValues}
+use Rattle.rdo_select.specs.declared.crossing.Found.{Found}
+use Rattle.rdo_select.specs.Sources.{Listed}
+use Rattle.rdo_select.specs.Stops.{HaveValues}
 use Rattle.served_selections.specs.Ranges.{Chosen, chosen_in_ranging}
 use Rattle.rdo_acts.specs.declared.work.Given.{Given}
 use Rattle.rdo_acts.specs.declared.work.Work.{Work}

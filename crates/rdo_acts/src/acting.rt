@@ -12,7 +12,7 @@ ghost use Rattle.rdo_acts.specs.Areas.{KeepsFor, StaysFor};
 ghost use Rattle.rdo_acts.specs.Scopes.{may_write};
 ghost use Rattle.rdo_acts.specs.Selections.{chosen_in_act, ReadsAmong, LacksAmong};
 ghost use Rattle.rdo_acts.specs.Wanted.{ActWants, Then, Lacking, WantsSo};
-ghost use Rattle.served_selections.specs.row_writes.Rows.{IsSoundView};
+ghost use Rattle.row_writes.specs.Rows.{IsSoundView};
 ghost use Rattle.rdo_acts.specs.Ahead.{WantsBehind};
 ghost use Rattle.rdo_acts.specs.Told.{Finishes, IsLacking, LacksStill, StopsAs};
 

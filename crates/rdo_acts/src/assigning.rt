@@ -8,7 +8,7 @@ ghost use Rattle.rdb_meaning.specs.Execution.{assign as assigning, assigned};
 ghost use Rattle.line_view.specs.Knowledge.{Lines};
 ghost use Rattle.rdo_values.specs.Rows.{row_of, variables_of};
 ghost use Rattle.rdo_bind.specs.Assigning.{written_assign, IsBoundAssign};
-ghost use Rattle.served_selections.specs.row_writes.Rows.{IsSoundView};
+ghost use Rattle.row_writes.specs.Rows.{IsSoundView};
 ghost use Rattle.rdo_acts.specs.Ends.{GoTogether, Computes, IsUnassigned, reply_of};
 ghost use Rattle.rdo_acts.specs.Areas.{ReadsFor};
 ghost use Rattle.rdo_acts.specs.Selections.{chosen_in_assigns, ReadsAmong};
@@ -19,7 +19,7 @@ use rdb_meaning::{FieldAt, field_of};
 use rdb_types::{Field, Row, Value};
 use rdo_arithmetic::fit;
 use rdo_bind::BoundAssign;
-use served_selections::rdo_select::value_in;
+use rdo_select::value_in;
 use statement_view::Changed;
 
 // A place past the end is none of the row.

@@ -15,6 +15,6 @@ mod updating;
 mod work;
 
 pub use acting::{Acted, Ended, Outcome, act};
-pub use selection_areas::statement_sources;
+pub use selection_areas::sources;
 pub use stop::Refusal;
 pub use work::Given;

@@ -9,7 +9,7 @@ ghost use Rattle.rdb_meaning.specs.Execution.{line as printed, item_line as line
 ghost use Rattle.line_view.specs.Knowledge.{Lines};
 ghost use Rattle.rdo_values.specs.Rows.{row_of, variables_of};
 ghost use Rattle.rdo_bind.specs.Acting.{written_item, IsBoundItem};
-ghost use Rattle.served_selections.specs.row_writes.Rows.{IsSoundView};
+ghost use Rattle.row_writes.specs.Rows.{IsSoundView};
 ghost use Rattle.rdo_acts.specs.Printing.{values_line, IsNoLine, prints};
 ghost use Rattle.rdo_acts.specs.Ends.{GoTogether, Computes, Runs};
 ghost use Rattle.rdo_acts.specs.Areas.{ReadsFor, RunsFor};
@@ -20,7 +20,7 @@ use crate::work::{Given, Work};
 use rdb_types::{FieldType, Items, NoMemory, Printed, Row, Scaled, Value};
 use rdo_arithmetic::{Stop as EvaluationStop, scaled};
 use rdo_bind::{BoundPrintItem, BoundVariable};
-use served_selections::rdo_select::value_in;
+use rdo_select::value_in;
 use sqlite_items::at as item_at;
 use statement_view::Changed;
 use std::alloc::Global;

@@ -6,7 +6,7 @@ ghost use Rattle.rdb_meaning.specs.Execution.{done, done_all, over};
 ghost use Rattle.rdo_values.specs.Places.{AreRanges};
 ghost use Rattle.rdo_values.specs.Rows.{variables_of};
 ghost use Rattle.rdo_bind.specs.Acting.{act_of, acts_of, named_act, named_acts, IsBoundAct, AreBoundActs};
-ghost use Rattle.served_selections.specs.rdo_select.Crossed.{ranges_of};
+ghost use Rattle.rdo_select.specs.Crossed.{ranges_of};
 ghost use Rattle.rdo_acts.specs.Scopes.{scope_of, AreRowsOf, may_write, may_write_any};
 ghost use Rattle.rdo_acts.specs.Ends.{GoTogether, Runs, RunsOver};
 ghost use Rattle.rdo_acts.specs.Areas.{action_uses, body_uses, RunsFor, RunsOverFor};
@@ -21,8 +21,8 @@ use crate::updating::{erase, modify};
 use crate::work::{Given, Work};
 use rdb_types::Row;
 use rdo_bind::BoundAction;
+use rdo_select::{Found, select};
 use rdo_values::BoundRange;
-use served_selections::rdo_select::{Found, select};
 
 /// Whether an action may write a row.
 #[cycle(writing)]

@@ -9,8 +9,8 @@ use catalog_lines::IndexLine;
 use line_view::Stop;
 use rdb_types::Chars;
 use rdo_arithmetic::Misfit;
-use served_selections::rdo_select::SelectStop;
-use served_selections::row_writes::{PairRefusal, RowRefusal, RowStop};
+use rdo_select::SelectStop;
+use row_writes::{PairRefusal, RowRefusal, RowStop};
 use sqlite_items::at;
 use stored_rows::Unstored;
 

@@ -12,7 +12,7 @@ ghost use Rattle.line_view.specs.Knowledge.{Lines};
 ghost use Rattle.rdo_values.specs.Rows.{row_of, variables_of};
 ghost use Rattle.rdo_bind.specs.Acting.{store as store_act, named_act, IsBoundAct};
 ghost use Rattle.rdo_bind.specs.Assigning.{written_assign, IsBoundAssign};
-ghost use Rattle.served_selections.specs.row_writes.Rows.{IsSoundView};
+ghost use Rattle.row_writes.specs.Rows.{IsSoundView};
 ghost use Rattle.rdo_acts.specs.Scopes.{missing_values};
 ghost use Rattle.rdo_acts.specs.Ends.{GoTogether, Computes, IsUnassigned, reply_of, Runs};
 ghost use Rattle.rdo_acts.specs.Areas.{ReadsFor, RunsFor};
@@ -26,7 +26,7 @@ use crate::work::{Given, Work};
 use rdb_types::{Field, Row};
 use rdo_bind::BoundAssign;
 use rdo_values::BoundRange;
-use served_selections::row_writes::store_row;
+use row_writes::store_row;
 use statement_view::Changed;
 
 // A field that isn't assigned is missing, and so are the values of the variable that is stored.

@@ -11,7 +11,7 @@ ghost use Rattle.line_view.specs.Knowledge.{Lines};
 ghost use Rattle.rdo_values.specs.Rows.{variables_of};
 ghost use Rattle.rdo_bind.specs.Acting.{modify as modify_act, erase as erase_act, named_act, IsBoundAct};
 ghost use Rattle.rdo_bind.specs.Assigning.{written_assign};
-ghost use Rattle.served_selections.specs.row_writes.Rows.{IsSoundView};
+ghost use Rattle.row_writes.specs.Rows.{IsSoundView};
 ghost use Rattle.selection_areas.specs.stored_schema.Targets.{IsTargetIn};
 ghost use Rattle.rdo_acts.specs.Scopes.{scope_of, AreRowsOf};
 ghost use Rattle.rdo_acts.specs.Ends.{GoTogether, Computes, Runs};
@@ -25,7 +25,7 @@ use crate::work::{Given, Work};
 use line_view::{Never, Stop};
 use rdb_types::{Copied, Row};
 use rdo_bind::{BoundAssign, BoundVariable};
-use served_selections::row_writes::{TargetRelation, change_row, erase_row};
+use row_writes::{TargetRelation, change_row, erase_row};
 
 // What is written of the relation of a variable, and its row as it is now.
 fn row_now<'a>(

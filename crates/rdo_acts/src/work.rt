@@ -2,8 +2,8 @@
 ghost use Rattle.std.specs.Prelude.{◌≡◌, []};
 
 use rdb_types::{Items, Keys, PrintedRows};
-use selection_areas::stored_schema::Schema;
-use served_selections::rdo_select::Sources;
+use rdo_select::Sources;
+use selection_areas::Schema;
 use statement_view::Changed;
 use std::alloc::Global;
 

@@ -1,4 +1,3 @@
-pub use Rattle.rdb_meaning.specs as rdb_meaning
 pub mod Answers
 pub mod Reducing
 pub mod RowLaws

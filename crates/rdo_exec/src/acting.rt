@@ -15,18 +15,17 @@ ghost use Rattle.rdo_exec.specs.Needed.{ActNeeds};
 
 use crate::records::{Returned, answered_by};
 use crate::standing::standing_for;
-use deleted_areas::stored_schema::Schema;
 use line_view::{Known, Need};
 use rdb_checks::{Stop as CheckStop, check_action};
 use rdb_types::{Copied, Items, Keys, NoMemory};
-use rdo_acts::statement_sources::sources;
-use rdo_acts::{Acted, Ended, Given, Outcome, Refusal, act};
+use rdo_acts::{Acted, Ended, Given, Outcome, Refusal, act, sources};
 use rdo_ast::reply::{Reply, Standing};
 use rdo_ast::syntax::Action;
 use rdo_bind::{BoundAction, bind_action};
 use rdo_select::Sources;
 use session_jobs::{Found, TxRecord};
 use std::alloc::Global;
+use stored_schema::Schema;
 
 // Names in the order of the text, then reservations, then types.
 fn bound_in(

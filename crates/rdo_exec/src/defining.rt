@@ -29,10 +29,9 @@ use crate::records::{Returned, answered_by, done, missing, stopped};
 use catalog::{Catalog, read_catalog};
 use catalog_definitions::{is_index_definition, is_relation_definition};
 use catalog_lines::{is_name, is_type};
-use deleted_areas::schema_writes::{
+use deleted_areas::{
     SchemaRefusal, SchemaStop, define_field, define_relation, delete_index, delete_relation,
 };
-use deleted_areas::stored_schema::Schema;
 use index_writes::define_index;
 use line_view::{Known, Need, Stop};
 use rdb_checks::{
@@ -47,6 +46,7 @@ use rdo_ast::syntax::{FieldDefinition, IndexDefinition, Reservations, Statement}
 use session_jobs::{Found, TxRecord};
 use statement_view::Changed;
 use std::alloc::Global;
+use stored_schema::Schema;
 
 // What a check of names or reservations refuses.
 fn unchecked(alloc: Global, stop: CheckStop, standing: &Standing) -> Found

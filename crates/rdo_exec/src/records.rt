@@ -3,12 +3,12 @@ ghost use Rattle.std.specs.Prelude.{◌≡◌, []};
 ghost use Rattle.rdb_meaning.specs.Usual.{is_refusal_of_means};
 ghost use Rattle.rdo_exec.specs.Answers.{answer_of, answer_by, found_of_stop};
 
-use deleted_areas::stored_schema::Schema;
 use line_view::{Known, Need, Never, Stop};
 use rdb_types::{Items, NoMemory};
 use rdo_ast::reply::{Reply, Standing};
 use session_jobs::{Found, TxRecord};
 use std::alloc::Global;
+use stored_schema::Schema;
 
 /// What was known, given back, and what the work came to.
 #[derive(Drop)]

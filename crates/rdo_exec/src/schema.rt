@@ -5,9 +5,9 @@ ghost use Rattle.catalog.specs.Reading.{IsWhole, StopsCatalog};
 ghost use Rattle.rdo_exec.specs.Coming.{IsCatalogOfKnown};
 
 use catalog::read_catalog;
-use deleted_areas::stored_schema::Schema;
 use line_view::{Known, Never, Stop};
 use std::alloc::Global;
+use stored_schema::Schema;
 
 /// The catalog that is known, with how its relations are stored.
 pub(crate) fn schema_of(alloc: Global, known: &Known) -> Result<Schema, Stop<Never>>

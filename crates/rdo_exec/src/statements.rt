@@ -27,13 +27,13 @@ use crate::records::{Returned, Worked, answered_by, stopped};
 use crate::schema::schema_of;
 use crate::standing::first_refusal;
 use crate::way::{Way, way_of};
-use deleted_areas::stored_schema::Schema;
 use line_view::{Known, Never, Stop};
 use rdb_types::{Copied, Word};
 use rdo_ast::reply::Standing;
 use rdo_ast::syntax::{Item, Statement};
 use session_jobs::{Answer, Found, Job, Statements};
 use std::alloc::Global;
+use stored_schema::Schema;
 
 /// It works each statement over the lines that it reads, and over no others.
 #[derive(Drop)]

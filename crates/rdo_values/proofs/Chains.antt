@@ -1,9 +1,9 @@
 -- One step of the loops over chains of operations, over tests and over conjunctions.
 use Rattle.std.proofs.Common.{◌≡◌, ℕ, ◌+◌, ◌<◌, ◌≤◌, Bool, true, false, List, [], ◌∷◌, map, length, get_or, drop, refl, ap, sym, ◌∙◌, subst, rules, arith, zero, suc}
 use Rattle.rdb_types.specs.declared.values.Scaled.{Scaled}
-use Rattle.rdo_arithmetic.specs.rdb_meaning.Numbers.{Computed, is, overflow, arithmetic}
-use Rattle.rdo_arithmetic.specs.rdb_meaning.Comparison.{Weighed, holds, overflows, and_of, or_of, Verdict, chosen, passed_over, undecided, both_parts, verdict_of}
-use Rattle.rdo_arithmetic.specs.rdb_meaning.Contents.{Row}
+use Rattle.rdb_meaning.specs.Numbers.{Computed, is, overflow, arithmetic}
+use Rattle.rdb_meaning.specs.Comparison.{Weighed, holds, overflows, and_of, or_of, Verdict, chosen, passed_over, undecided, both_parts, verdict_of}
+use Rattle.rdb_meaning.specs.Contents.{Row}
 use Rattle.rdo_arithmetic.proofs.Connectives.{and_of_assoc, or_of_assoc, or_of-overflows, both_parts_assoc, so_far, both_parts-chosen_right, so_far-undecided}
 use Rattle.rdo_arithmetic.proofs.Items.{at_item}
 use Rattle.rdo_values.specs.declared.bound.BoundExpression as tree

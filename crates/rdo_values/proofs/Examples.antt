@@ -4,8 +4,8 @@ use Rattle.rdb_types.specs.declared.values.Value.TheVariants.{Missing, Number}
 use Rattle.rdb_types.specs.declared.values.DataType.TheVariants.{Longword}
 use Rattle.rdb_types.specs.declared.values.FieldType.{FieldType}
 use Rattle.rdb_types.specs.declared.keys.Dbkey.{Dbkey}
-use Rattle.rdo_arithmetic.specs.rdb_meaning.declared.tables.Tables.{Tables}
-use Rattle.rdo_arithmetic.specs.rdb_meaning.Evaluation.{Scope}
+use Rattle.rdb_meaning.specs.declared.tables.Tables.{Tables}
+use Rattle.rdb_meaning.specs.Evaluation.{Scope}
 use Rattle.rdo_values.specs.Rows.{row_of, variables_of}
 use Rattle.rdo_values.specs.Places.{located}
 

@@ -3,11 +3,11 @@ use Rattle.std.proofs.Common.{◌≡◌, Option, Some, None, slice_get, [], refl
 use Rattle.rdb_types.specs.declared.values.Value.{Value}
 use Rattle.rdb_types.specs.declared.values.Value.TheVariants.{Missing, Number, Text}
 use Rattle.rdb_types.specs.declared.values.FieldType.{FieldType}
-use Rattle.rdo_arithmetic.specs.rdb_meaning.declared.tables.Tables.{Tables}
-use Rattle.rdo_arithmetic.specs.rdb_meaning.Numbers.{Computed, is, arithmetic, negation}
-use Rattle.rdo_arithmetic.specs.rdb_meaning.Comparison.{and_of, or_of, not_of, compared as compared_of, lies_between, on_texts, contains_any_case, begins_with, missing_test, both_parts, verdict_of}
-use Rattle.rdo_arithmetic.specs.rdb_meaning.Contents.{no_tables}
-use Rattle.rdo_arithmetic.specs.rdb_meaning.Evaluation.{Scope, scaled_if, computed, computed_after, tested, all_hold, some_holds, parts_verdict, verdict_of_condition}
+use Rattle.rdb_meaning.specs.declared.tables.Tables.{Tables}
+use Rattle.rdb_meaning.specs.Numbers.{Computed, is, arithmetic, negation}
+use Rattle.rdb_meaning.specs.Comparison.{and_of, or_of, not_of, compared as compared_of, lies_between, on_texts, contains_any_case, begins_with, missing_test, both_parts, verdict_of}
+use Rattle.rdb_meaning.specs.Contents.{no_tables}
+use Rattle.rdb_meaning.specs.Evaluation.{Scope, scaled_if, computed, computed_after, tested, all_hold, some_holds, parts_verdict, verdict_of_condition}
 use Rattle.rdo_values.specs.declared.bound.KnownValue.{KnownValue}
 use Rattle.rdo_values.specs.declared.bound.KnownValue.TheVariants as known_value
 use Rattle.rdo_values.specs.declared.bound.KnownTruth.{KnownTruth}

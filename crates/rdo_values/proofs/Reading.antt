@@ -4,10 +4,10 @@ use Rattle.rdb_types.specs.declared.values.Value.{Value}
 use Rattle.rdb_types.specs.declared.values.Field.{Field}
 use Rattle.rdo_ast.specs.Tree.{Name}
 use Rattle.rdo_ast.specs.declared.syntax.Reference.{Reference}
-use Rattle.rdo_arithmetic.specs.rdb_meaning.declared.tables.Tables.{Tables}
-use Rattle.rdo_arithmetic.specs.rdb_meaning.declared.scope.Binding.{Binding}
-use Rattle.rdo_arithmetic.specs.rdb_meaning.Contents.{Row, same_name, relation_named, fields_of, place_of, place_from}
-use Rattle.rdo_arithmetic.specs.rdb_meaning.Evaluation.{Scope, bound_as, row_now, scaled_if, read_place, read_if_bound, read_bound, read}
+use Rattle.rdb_meaning.specs.declared.tables.Tables.{Tables}
+use Rattle.rdb_meaning.specs.declared.scope.Binding.{Binding}
+use Rattle.rdb_meaning.specs.Contents.{Row, same_name, relation_named, fields_of, place_of, place_from}
+use Rattle.rdb_meaning.specs.Evaluation.{Scope, bound_as, row_now, scaled_if, read_place, read_if_bound, read_bound, read}
 use Rattle.rdo_values.specs.Rows.{values_of, row_or_none, row_of, variables_of}
 use Rattle.rdo_values.specs.Places.{Place, place_of_field, behind, located}
 

@@ -1,7 +1,7 @@
 -- Scales of bound forms, cut at 19: what comes of them is cut alike.
 use Rattle.std.proofs.Common.{◌≡◌, ℕ, ◌+◌, ◌<◌, min, List, ◌∷◌, map, length, get_or, drop, ap, sym, ◌∙◌, arith, rules}
 use Rattle.std.proofs.lemmas.List.{at_drop_more}
-use Rattle.rdo_arithmetic.specs.rdb_meaning.Evaluation.{scale_by}
+use Rattle.rdb_meaning.specs.Evaluation.{scale_by}
 use Rattle.rdo_values.specs.declared.bound.BoundExpression as tree
 use Rattle.rdo_values.specs.declared.bound.BoundOperation.{BoundOperation}
 use Rattle.rdo_values.specs.Tree.{Operations, no_operation, operation}

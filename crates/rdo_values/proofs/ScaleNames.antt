@@ -4,10 +4,10 @@ use Rattle.std.proofs.lemmas.List.{map-append}
 use Rattle.rdb_types.specs.declared.values.Field.{Field}
 use Rattle.rdo_ast.specs.declared.syntax.Reference.{Reference}
 use Rattle.rdo_ast.specs.declared.syntax.Range.{Range}
-use Rattle.rdo_arithmetic.specs.rdb_meaning.declared.tables.Tables.{Tables}
-use Rattle.rdo_arithmetic.specs.rdb_meaning.declared.scope.Binding.{Binding}
-use Rattle.rdo_arithmetic.specs.rdb_meaning.Contents.{same_name, relation_named, fields_of}
-use Rattle.rdo_arithmetic.specs.rdb_meaning.Evaluation.{Scope, bound_as, field_in, referred, scale_of_place, scale_by, scale_of, scale_after, bind_source, bind_sources}
+use Rattle.rdb_meaning.specs.declared.tables.Tables.{Tables}
+use Rattle.rdb_meaning.specs.declared.scope.Binding.{Binding}
+use Rattle.rdb_meaning.specs.Contents.{same_name, relation_named, fields_of}
+use Rattle.rdb_meaning.specs.Evaluation.{Scope, bound_as, field_in, referred, scale_of_place, scale_by, scale_of, scale_after, bind_source, bind_sources}
 use Rattle.rdo_values.specs.declared.bound.BoundReference.{BoundReference}
 use Rattle.rdo_values.specs.Tree.{Expression, number, text, field, negative, chain, count, statistic, known, Operations, no_operation, operation, ranging}
 use Rattle.rdo_values.specs.Named.{named, named_operations}

@@ -4,10 +4,10 @@ use Rattle.rdb_types.specs.declared.values.Value.{Value}
 use Rattle.rdb_types.specs.declared.values.Value.TheVariants.{Missing, Number, Text}
 use Rattle.rdb_types.specs.declared.values.Scaled.{Scaled}
 use Rattle.rdo_ast.specs.Tree as tree
-use Rattle.rdo_arithmetic.specs.rdb_meaning.Numbers.{Computed}
-use Rattle.rdo_arithmetic.specs.rdb_meaning.Comparison.{Weighed, Verdict}
-use Rattle.rdo_arithmetic.specs.rdb_meaning.Contents.{Row, no_tables}
-use Rattle.rdo_arithmetic.specs.rdb_meaning.Evaluation.{scaled_if, computed, computed_after, tested, all_hold, some_holds, parts_verdict, verdict_of_condition}
+use Rattle.rdb_meaning.specs.Numbers.{Computed}
+use Rattle.rdb_meaning.specs.Comparison.{Weighed, Verdict}
+use Rattle.rdb_meaning.specs.Contents.{Row, no_tables}
+use Rattle.rdb_meaning.specs.Evaluation.{scaled_if, computed, computed_after, tested, all_hold, some_holds, parts_verdict, verdict_of_condition}
 use Rattle.rdo_values.specs.declared.bound.BoundReference.{BoundReference}
 use Rattle.rdo_values.specs.declared.bound.KnownValue.{KnownValue}
 use Rattle.rdo_values.specs.declared.bound.KnownValue.TheVariants as known_value

@@ -1,9 +1,9 @@
 -- What is put in the place of statistics and of ANY.
 use Rattle.std.specs.Prelude.{◌≡◌}
-use Rattle.rdo_arithmetic.specs.rdb_meaning.declared.tables.Tables.{Tables}
-use Rattle.rdo_arithmetic.specs.rdb_meaning.Numbers.{Computed, is, overflow, absent, numeral, letters}
-use Rattle.rdo_arithmetic.specs.rdb_meaning.Comparison.{Weighed, holds, fails, overflows}
-use Rattle.rdo_arithmetic.specs.rdb_meaning.Evaluation.{Scope, computed, tested}
+use Rattle.rdb_meaning.specs.declared.tables.Tables.{Tables}
+use Rattle.rdb_meaning.specs.Numbers.{Computed, is, overflow, absent, numeral, letters}
+use Rattle.rdb_meaning.specs.Comparison.{Weighed, holds, fails, overflows}
+use Rattle.rdb_meaning.specs.Evaluation.{Scope, computed, tested}
 use Rattle.rdo_values.specs.declared.bound.KnownValue.{KnownValue}
 use Rattle.rdo_values.specs.declared.bound.KnownValue.TheVariants as known_value
 use Rattle.rdo_values.specs.declared.bound.KnownTruth.{KnownTruth}

@@ -4,9 +4,9 @@ use Rattle.rdb_types.specs.declared.values.Field.{Field}
 use Rattle.rdb_types.specs.declared.values.FieldType.{FieldType}
 use Rattle.rdo_ast.specs.declared.syntax.Reference.{Reference}
 use Rattle.rdo_ast.specs.declared.syntax.Range.{Range}
-use Rattle.rdo_arithmetic.specs.rdb_meaning.declared.tables.Tables.{Tables}
-use Rattle.rdo_arithmetic.specs.rdb_meaning.declared.tables.Relation.{Relation}
-use Rattle.rdo_arithmetic.specs.rdb_meaning.Contents.{same_name, relation_named, fields_of, place_of}
+use Rattle.rdb_meaning.specs.declared.tables.Tables.{Tables}
+use Rattle.rdb_meaning.specs.declared.tables.Relation.{Relation}
+use Rattle.rdb_meaning.specs.Contents.{same_name, relation_named, fields_of, place_of}
 use Rattle.rdo_values.specs.declared.bound.BoundReference.{BoundReference}
 use Rattle.rdo_values.specs.declared.bound.BoundRange.{BoundRange}
 use Rattle.rdo_values.specs.Tree.{Expression, number, text, field, negative, chain, count, statistic, known, Operations, no_operation, operation, Testing, compare, between, containing, starting_with, missing, any, negated, group, decided, Conjunction, no_test, test, Condition, no_conjunction, conjunction, Ranging, ranging, With, without_condition, with_condition}

@@ -3,10 +3,10 @@ use Rattle.std.specs.Prelude.{List, [], ◌∷◌, ◌++◌, map, Option, Some, 
 use Rattle.rdb_types.specs.declared.values.Value.TheVariants.{Missing}
 use Rattle.rdb_types.specs.declared.values.Field.{Field}
 use Rattle.rdo_ast.specs.declared.syntax.Range.{Range}
-use Rattle.rdo_arithmetic.specs.rdb_meaning.declared.tables.Tables.{Tables}
-use Rattle.rdo_arithmetic.specs.rdb_meaning.declared.scope.Binding.{Binding}
-use Rattle.rdo_arithmetic.specs.rdb_meaning.Contents.{Row, relation_named, fields_of}
-use Rattle.rdo_arithmetic.specs.rdb_meaning.Evaluation.{Scope, row_now}
+use Rattle.rdb_meaning.specs.declared.tables.Tables.{Tables}
+use Rattle.rdb_meaning.specs.declared.scope.Binding.{Binding}
+use Rattle.rdb_meaning.specs.Contents.{Row, relation_named, fields_of}
+use Rattle.rdb_meaning.specs.Evaluation.{Scope, row_now}
 
 -- the values of a row's fields, missing where the row has none
 abbrev pub values_of : List Field → Row → Row

@@ -1,6 +1,6 @@
 -- How many digits after the point a bound form's numbers have, by the types that its references carry.
 use Rattle.std.specs.Prelude.{ℕ}
-use Rattle.rdo_arithmetic.specs.rdb_meaning.Evaluation.{scale_by}
+use Rattle.rdb_meaning.specs.Evaluation.{scale_by}
 use Rattle.rdo_values.specs.Tree.{Expression, number, text, field, negative, chain, count, statistic, known, Operations, no_operation, operation}
 
 abbrev mutual

@@ -6,7 +6,7 @@ use Rattle.rdo_ast.specs.declared.syntax.Range.{Range}
 use Rattle.rdo_ast.specs.declared.syntax.SortKey.{SortKey}
 use Rattle.rdo_ast.specs.declared.syntax.Clause.{Clause}
 use Rattle.rdo_ast.specs.declared.syntax.Clause.TheVariants as clause
-use Rattle.rdo_arithmetic.specs.rdb_meaning.declared.tables.Tables.{Tables}
+use Rattle.rdb_meaning.specs.declared.tables.Tables.{Tables}
 use Rattle.rdo_values.specs.declared.bound.BoundReference.{BoundReference}
 use Rattle.rdo_values.specs.declared.bound.BoundSortKey.{BoundSortKey}
 use Rattle.rdo_values.specs.declared.bound.BoundClause.{BoundClause}

@@ -1,8 +1,8 @@
 //! What bound expressions give at a row.
 ghost use Rattle.std.specs.Prelude.{◌≡◌, map};
-ghost use Rattle.rdo_arithmetic.specs.rdb_meaning.declared.tables.Tables.{Tables};
-ghost use Rattle.rdo_arithmetic.specs.rdb_meaning.Numbers.{is};
-ghost use Rattle.rdo_arithmetic.specs.rdb_meaning.Evaluation.{Scope, computed};
+ghost use Rattle.rdb_meaning.specs.declared.tables.Tables.{Tables};
+ghost use Rattle.rdb_meaning.specs.Numbers.{is};
+ghost use Rattle.rdb_meaning.specs.Evaluation.{Scope, computed};
 ghost use Rattle.rdo_arithmetic.specs.Answers.{Gives};
 ghost use Rattle.rdo_values.specs.Views.{expression_of, operations_of, applied_of};
 ghost use Rattle.rdo_values.specs.Named.{named};

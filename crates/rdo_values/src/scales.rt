@@ -1,7 +1,7 @@
 //! How many digits after the point a bound expression's numbers have.
 ghost use Rattle.std.specs.Prelude.{◌≡◌, ◌≤◌, min, map};
-ghost use Rattle.rdo_arithmetic.specs.rdb_meaning.declared.tables.Tables.{Tables};
-ghost use Rattle.rdo_arithmetic.specs.rdb_meaning.Evaluation.{Scope, scale_of as scale_of_expression};
+ghost use Rattle.rdb_meaning.specs.declared.tables.Tables.{Tables};
+ghost use Rattle.rdb_meaning.specs.Evaluation.{Scope, scale_of as scale_of_expression};
 ghost use Rattle.rdo_values.specs.Views.{expression_of, operations_of, applied_of};
 ghost use Rattle.rdo_values.specs.Named.{named};
 ghost use Rattle.rdo_values.specs.Rows.{variables_of};

@@ -17,7 +17,7 @@ use line_store::ReadStop;
 use ordered_entries::Entries;
 use rdb_outside::Disk;
 use rdb_types::{Dbkey, Image, NoMemory};
-use seen_lines::page_table::PageTable;
+use seen_lines::PageTable;
 use std::alloc::Global;
 use version_reading::Reader;
 

@@ -6,5 +6,5 @@ mod lines;
 
 pub use areas::reader_area;
 pub use lines::reader_line;
-pub use seen_lines::{committed_lines, own_area, present_lines, seen_area, seen_line};
-pub use version_writing;
+pub use seen_lines::{HasBeforeImages, own_area, present_lines, seen_area, seen_line};
+pub use version_writing::{MayWant, SnapshotSlots, Wanted, is_wanted, push_aside};

@@ -23,9 +23,9 @@ use Rattle.disk_seats.specs.Members.{LedgerFacts}
 use Rattle.disk_seats.proofs.GivenUp.{stands_facts}
 use Rattle.disk_versions.specs.Courses.{course_landed}
 use Rattle.member_steps.specs.Turns.{commit_of_plan}
-use Rattle.store_endings.specs.ledger_versions.Readers.{set_waiting}
-use Rattle.store_endings.proofs.of_ledger_versions.MembersEnd.{member_lands}
-use Rattle.store_endings.proofs.of_ledger_versions.Restanding.{some_commit}
+use Rattle.ledger_versions.specs.Readers.{set_waiting}
+use Rattle.ledger_versions.proofs.MembersEnd.{member_lands}
+use Rattle.ledger_versions.proofs.Restanding.{some_commit}
 use Rattle.member_memory.specs.Memory.{writes_in}
 use Rattle.store_endings.specs.disk_store.declared.member.Member.{Member}
 use Rattle.store_endings.specs.disk_store.declared.member.MemberStage.TheVariants as stage

@@ -22,7 +22,7 @@ use line_store::{Fault, Stepped};
 use member_steps::has_commit;
 use rdb_outside::{Disk, Failed};
 use rdb_types::Session;
-use store_endings::disk_store::{Held, MemberStage, Recovery};
+use store_endings::{Held, MemberStage, Recovery};
 
 // Whether the commit slot of a session's group stands in what reads give, where memory says that it would.
 fn has_group<D: Disk>(disk: &mut D, held: &Held, s: Session) -> Result<bool, Failed>

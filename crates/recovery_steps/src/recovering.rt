@@ -11,8 +11,7 @@ use crate::judge;
 use line_store::{Fault, Stepped};
 use rdb_outside::Disk;
 use rdb_types::Session;
-use store_endings::disk_store::{Held, Recovery};
-use store_endings::{bury, put_back, restore};
+use store_endings::{Held, Recovery, bury, put_back, restore};
 
 /// A step of the recovery of a session that died: one write or one barrier at most, and no memory.
 pub fn recover<D: Disk>(

@@ -6,6 +6,5 @@ mod reading;
 mod stored;
 
 pub use laws::rows_of_the_lesser_class_are_short;
-pub use rdb_meaning;
 pub use reading::{row, rows};
 pub use stored::{Rows, StoredRelation, StoredRow, are_values_of};

@@ -7,7 +7,7 @@ ghost use Rattle.relation_rows.specs.Stored.{IsRowAt, IsBadAt, AreRowsOf, IsBadI
 
 use crate::stored::{Rows, StoredRelation, StoredRow, row_of};
 use rdb_types::{Dbkey, Row};
-use sorted_index_laws::line_view::{Need, Never, Seen, Stop, View};
+use sorted_index_laws::{Need, Never, Seen, Stop, View};
 use std::alloc::Global;
 
 /// The row at a Dbkey, if a line is present there.

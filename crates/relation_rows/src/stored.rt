@@ -3,7 +3,7 @@ ghost use Rattle.std.specs.Prelude.{◌≡◌, ℕ, IfOk, IfSome, IfNone, length
 ghost use Rattle.relation_rows.specs.Stored.{IsRowOf, AreValuesIn, is_number_of as number_may_stand, is_value_of as may_stand_in, are_values_of as may_stand, count_in as fields_in, completed};
 
 use rdb_types::{DataType, Dbkey, Field, FieldType, Items, NoMemory, Row, Value};
-use sorted_index_laws::record_format::{VersionedRow, read_row};
+use sorted_index_laws::{VersionedRow, read_row};
 use std::alloc::Global;
 
 /// A relation as its rows are stored: its logical area, the version that it has now, and its fields, those of later versions behind the others.

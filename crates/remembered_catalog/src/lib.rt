@@ -6,4 +6,4 @@ mod part;
 mod shown;
 
 pub use memory::CatalogMemory;
-pub use rdo_exec;
+pub use rdo_exec::RdoStatements;

@@ -9,7 +9,7 @@ use Rattle.new_database.specs.Maker.{root_file}
 use Rattle.stable_lines.specs.Journal.{Journal}
 use Rattle.rolled_lines.specs.Journals.{follow, gap}
 use Rattle.laid_groups.specs.Forward.{Forward}
-use Rattle.rmu_recover.specs.fitted_groups.Meeting.{TakesFirst, FitPages}
+use Rattle.fitted_groups.specs.Meeting.{TakesFirst, FitPages}
 use Rattle.rmu_texts.specs.Numbers.{count_line}
 use Rattle.script_streams.specs.Fronts.{WritesFront}
 use Rattle.rmu_recover.specs.declared.fault.RecoverFault.{RecoverFault}

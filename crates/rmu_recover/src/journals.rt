@@ -17,7 +17,7 @@ ghost use Rattle.fitted_groups.specs.laid_groups.Passing.{IsJournalIn};
 ghost use Rattle.rmu_recover.specs.Journals.{files_of, AreJournalsIn, Reaches, FollowsTo};
 
 use crate::RecoverFault;
-use fitted_groups::laid_groups::{Reached, lay_journal, pass_journal};
+use fitted_groups::{Reached, lay_journal, pass_journal};
 use line_moves::aij_file;
 use line_opening::OpeningFault;
 use rdb_outside::Disk;

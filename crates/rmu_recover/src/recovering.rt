@@ -18,7 +18,7 @@ ghost use Rattle.rmu_recover.specs.Recovering.{IsOther, IsToRoll, IsSource, AllF
 use crate::RecoverFault;
 use crate::fitting::check_fit;
 use crate::journals::{lay_all, pass_all};
-use fitted_groups::laid_groups::Reached;
+use fitted_groups::Reached;
 use guarded_root::{guard, unguard};
 use line_moves::root_file;
 use line_opening::OpeningFault;

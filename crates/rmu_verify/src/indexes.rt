@@ -17,8 +17,7 @@ ghost use Rattle.areas_at_rest.specs.Runs.{IsQuiet, AtRest};
 ghost use Rattle.rmu_verify.specs.Added.{IsRooted};
 
 use crate::relations::{entry_in, version_of};
-use areas_at_rest::lines_at_rest::RestReading;
-use areas_at_rest::view_of;
+use areas_at_rest::{RestReading, view_of};
 use catalog::Catalog;
 use catalog_lines::{CatalogLine, IndexLine};
 use index_faults::{Judgement, Walk, judge_contents, walk_index};

@@ -13,7 +13,7 @@ use crate::indexes::{IndexFaults, verify_indexes};
 use crate::listing::{SortedFaults, add_all, sorted};
 use crate::rows::verify_rows;
 use crate::strays::verify_strays;
-use areas_at_rest::lines_at_rest::{AreaLines, RestReading, read_area};
+use areas_at_rest::{AreaLines, RestReading, read_area};
 use catalog::Catalog;
 use line_faults::{CheckedCatalog, ascending, check_catalog};
 use line_opening::OpeningFault;

@@ -9,8 +9,7 @@ ghost use Rattle.areas_at_rest.specs.Runs.{IsQuiet, AtRest};
 ghost use Rattle.rmu_verify.specs.Added.{AddsSome};
 
 use crate::relations::version_of;
-use areas_at_rest::lines_at_rest::RestReading;
-use areas_at_rest::view_of;
+use areas_at_rest::{RestReading, view_of};
 use catalog::Catalog;
 use line_faults::row_faults;
 use line_opening::OpeningFault;

@@ -9,7 +9,7 @@ ghost use Rattle.areas_at_rest.specs.Runs.{IsQuiet, AtRest};
 
 use crate::owners::owners_of;
 use crate::relations::entry_in;
-use areas_at_rest::lines_at_rest::{AreaLines, RestReading, read_area};
+use areas_at_rest::{AreaLines, RestReading, read_area};
 use line_opening::OpeningFault;
 use rdb_meaning::Tables;
 use rdb_outside::Disk;

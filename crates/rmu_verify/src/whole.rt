@@ -12,7 +12,7 @@ ghost use Rattle.areas_at_rest.specs.Runs.{IsQuiet};
 ghost use Rattle.rmu_verify.specs.Verified.{AreFaults};
 
 use crate::lines::verify_lines;
-use areas_at_rest::lines_at_rest::{FaultyPages, RestReading};
+use areas_at_rest::{FaultyPages, RestReading};
 use before_images::read_before_images;
 use line_opening::OpeningFault;
 use page_faults::{RmuStop, verify_pages};

@@ -3,7 +3,7 @@ ghost use Rattle.std.specs.Prelude.{◌≡◌, ℕ, true};
 ghost use Rattle.rdb_page.specs.Page.{IsOwner, IsClass};
 
 use area_files::storage_area;
-use gathering_steps::session_states::Gather;
+use gathering_steps::Gather;
 use line_view::Room;
 use rdb_types::Dbkey;
 

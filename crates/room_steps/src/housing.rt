@@ -12,10 +12,8 @@ ghost use Rattle.gathering_steps.specs.stage_steps.Turns.{at_stage};
 ghost use Rattle.gathering_steps.specs.Rounds.{gathers_at};
 
 use crate::naming::{Named, line_node, name_line};
-use gathering_steps::Round;
-use gathering_steps::session_states::{Gather, Stage, Work};
-use gathering_steps::stage_steps::{
-    Common, Happening, Terms, Turned, forgo, refuse_at_limit, want,
+use gathering_steps::{
+    Common, Gather, Happening, Round, Stage, Terms, Turned, Work, forgo, refuse_at_limit, want,
 };
 use given_rooms::Rooms;
 use line_store::LineStore;

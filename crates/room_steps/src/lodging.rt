@@ -10,9 +10,7 @@ ghost use Rattle.gathering_steps.specs.Rounds.{gathers_at};
 ghost use Rattle.room_steps.specs.Lodgings.{NearerFrom};
 
 use crate::given::{Given, is_of_pages};
-use gathering_steps::Round;
-use gathering_steps::session_states::{Stage, Work};
-use gathering_steps::stage_steps::{Common, Terms, Turned, failed, forgo, quiet};
+use gathering_steps::{Common, Round, Stage, Terms, Turned, Work, failed, forgo, quiet};
 use given_rooms::Rooms;
 use line_store::{LineStore, Progress, ReadStop};
 use line_view::{Need, Seen, View};

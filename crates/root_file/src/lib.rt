@@ -6,7 +6,7 @@ ghost use Rattle.root_file.specs.Root.{IsRoot, IsAllowed, AreLimits};
 ghost use Rattle.root_file.specs.Member.{IsMember};
 
 use rdb_types::Limits;
-pub use slot_fields;
+pub use slot_fields::is_zeros;
 use slot_fields::{
     has_bytes, has_zeros, put_bytes, put_u8, put_u16, put_u32, put_u64, put_zeros, u8_at, u16_at,
     u32_at, u64_at,

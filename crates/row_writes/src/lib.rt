@@ -9,6 +9,6 @@ mod target;
 
 pub use pairs::add_pair;
 pub use rows::{change_row, erase_row, store_row};
-pub use sound_changes::sound_lines;
+pub use sound_changes::{version_of, versions_of};
 pub use stop::{PairRefusal, PairStop, RowRefusal, RowStop};
 pub use target::TargetRelation;

@@ -2,7 +2,7 @@
 use Rattle.std.proofs.Common.{◌≡◌, ◌∙◌, sym, ℕ, List, [], ◌∷◌, length, Option, Some, None, ⊎_elim, arith}
 use Rattle.rdb_page.proofs.of_slot_fields.Laws.{word_not_zeros}
 use Rattle.rdb_page.proofs.States.{one_state}
-use Rattle.rdb_page.specs.rdb_types.declared.keys.Tsn.{Tsn}
+use Rattle.rdb_types.specs.declared.keys.Tsn.{Tsn}
 use Rattle.ruj_journal.specs.declared.entry.RujEntry.{RujEntry}
 use Rattle.ruj_journal.specs.Entry.{IsEntry}
 use Rattle.ruj_journal.specs.Header.{IsHeader, IsWritten, IsAllowed, number_of}

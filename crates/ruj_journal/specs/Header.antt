@@ -1,7 +1,7 @@
 -- The header of the before-image journal.
 use Rattle.std.specs.Prelude.{ℕ, ◌^◌, ◌<◌, ◌≤◌, ◌≡◌, ◌⊎◌, List, [], ◌∷◌, length, Option, Some, None, replicate}
 use Rattle.rdb_page.specs.slot_fields.Fields.{Field, number, text, gap, Has}
-use Rattle.rdb_page.specs.rdb_types.declared.keys.Tsn.{Tsn}
+use Rattle.rdb_types.specs.declared.keys.Tsn.{Tsn}
 
 -- RUJH
 abbrev pub header_word : List ℕ

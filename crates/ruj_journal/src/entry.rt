@@ -3,12 +3,11 @@ ghost use Rattle.std.specs.Prelude.{◌≡◌, ◌<◌, ◌^◌, List, ℕ, Some
 ghost use Rattle.rdb_page.specs.Lines.{IsAllowedLine};
 ghost use Rattle.ruj_journal.specs.Entry.{IsEntry};
 
-use rdb_page::rdb_types::{Dbkey, Image, Line, Tsn};
-use rdb_page::slot_fields::{
-    bytes_at, has_bytes, has_zeros, put_bytes, put_u8, put_u16, put_u32, put_u64, put_zeros, u8_at,
-    u16_at, u32_at, u64_at,
+use rdb_page::{
+    bytes_at, has_bytes, has_zeros, is_allowed_line, put_bytes, put_u8, put_u16, put_u32, put_u64,
+    put_zeros, state_byte, state_of, u8_at, u16_at, u32_at, u64_at,
 };
-use rdb_page::{is_allowed_line, state_byte, state_of};
+use rdb_types::{Dbkey, Image, Line, Tsn};
 
 /// How a line was before a transaction changed it. The index counts the transaction's entries from 1, and is the entry's slot.
 #[derive(Drop)]
@@ -106,7 +105,7 @@ pub fn one_entry()
 #[cfg(test)]
 mod tests {
     use super::*;
-    use rdb_page::rdb_types::LineState;
+    use rdb_types::LineState;
 
     #[test]
     fn an_entry_has_its_bytes(rt: HostRuntime) {

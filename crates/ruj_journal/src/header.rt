@@ -1,14 +1,11 @@
 // The first slot, with the transaction that is open.
 ghost use Rattle.std.specs.Prelude.{◌≡◌, ◌<◌, ◌^◌, List, ℕ, Option, Ok, length, IfOk, OnErr};
-ghost use Rattle.rdb_page.specs.rdb_types.declared.keys.Tsn.{Tsn as Number};
+ghost use Rattle.rdb_types.specs.declared.keys.Tsn.{Tsn as Number};
 ghost use Rattle.ruj_journal.specs.Header.{header_fields, IsHeader, IsWritten, IsAllowed, number_of as count_of};
 ghost use Rattle.rdb_page.specs.slot_fields.Fields.{Has};
 
-use rdb_page::BadPage;
-use rdb_page::rdb_types::Tsn;
-use rdb_page::slot_fields::{
-    has_bytes, has_zeros, is_zeros, put_bytes, put_u64, put_zeros, u64_at,
-};
+use rdb_page::{BadPage, has_bytes, has_zeros, is_zeros, put_bytes, put_u64, put_zeros, u64_at};
+use rdb_types::Tsn;
 
 fn number_of(tsn: Option<Tsn>) -> u64
     ensures { result ≡ count_of tsn }

@@ -1,7 +1,7 @@
 // Whether a transaction's entries find room.
 ghost use Rattle.std.specs.Prelude.{◌≡◌, ◌≤◌, ◌<◌, ◌+◌, Err, OnOk, OnErr};
 
-use rdb_page::rdb_types::Limits;
+use rdb_types::Limits;
 
 /// There is no room for a transaction's entries.
 #[derive(Clone, Copy, Debug, PartialEq, Eq)]

@@ -1,4 +1,3 @@
-pub use Rattle.sound_statements.proofs.of_sound_definitions as of_sound_definitions
 pub use Rattle.sound_statements.proofs as of_sound_statements
 pub mod Alike
 pub mod Made

@@ -15,7 +15,7 @@ ghost use Rattle.committed_tables.specs.Tables.{WereUsed};
 ghost use Rattle.seen_lines.specs.Seen.{IsOfArea, laid_in, seen_by, with_found};
 
 use committed_lines::{HasBeforeImages, committed_line};
-use committed_tables::page_table::PageTable;
+use committed_tables::PageTable;
 use line_store::{Fault, ReadStop};
 use line_view::PresentLine;
 use member_memory::MemberLines;

@@ -5,6 +5,6 @@ mod areas;
 mod lines;
 
 pub use areas::{own_area, present_lines, seen_area};
-pub use committed_lines;
-pub use committed_tables::page_table;
+pub use committed_lines::HasBeforeImages;
+pub use committed_tables::PageTable;
 pub use lines::seen_line;

@@ -30,11 +30,11 @@ use Rattle.index_rows.proofs.Chosen.{IsOfOne, chosen_by_one, serves_chosen}
 use Rattle.sound_changes.proofs.Basics.{all_of, number_is}
 use Rattle.sound_changes.proofs.Frames.{keys_in}
 use Rattle.statement_view.specs.Areas.{is_among, IsNeedOf}
-use Rattle.statement_sources.proofs.of_row_writes.AreaLists.{Wider, one_more_area, first_area}
-use Rattle.statement_sources.proofs.of_row_writes.NodesRead.{reads_within, first_among}
-use Rattle.statement_sources.specs.rdo_select.declared.source.Source.{Source}
-use Rattle.statement_sources.specs.rdo_select.Readings.{IsNextOfReading}
-use Rattle.statement_sources.specs.rdo_select.Sources.{IsSourceOf, IsAccessOf}
+use Rattle.row_writes.proofs.AreaLists.{Wider, one_more_area, first_area}
+use Rattle.row_writes.proofs.NodesRead.{reads_within, first_among}
+use Rattle.rdo_select.specs.declared.source.Source.{Source}
+use Rattle.rdo_select.specs.Readings.{IsNextOfReading}
+use Rattle.rdo_select.specs.Sources.{IsSourceOf, IsAccessOf}
 use Rattle.selection_areas.specs.Areas.{areas_of_source}
 
 abbrev AreOf : ℕ → List Dbkey → Type 0

@@ -10,16 +10,16 @@ use Rattle.catalog_lines.specs.declared.line.IndexLine.{IndexLine}
 use Rattle.catalog.specs.declared.reading.Catalog.{Catalog}
 use Rattle.access_paths.specs.declared.choice.IndexPath.{IndexPath}
 use Rattle.sound_changes.specs.Standing.{IsSoundAs}
-use Rattle.statement_sources.specs.row_writes.declared.target.TargetRelation.{TargetRelation}
-use Rattle.statement_sources.specs.row_writes.Target.{AreOwn, named_index}
-use Rattle.statement_sources.specs.row_writes.Areas.{areas_of, areas_with}
-use Rattle.statement_sources.proofs.of_row_writes.RowKept.{root_of}
+use Rattle.row_writes.specs.declared.target.TargetRelation.{TargetRelation}
+use Rattle.row_writes.specs.Target.{AreOwn, named_index}
+use Rattle.row_writes.specs.Areas.{areas_of, areas_with}
+use Rattle.row_writes.proofs.RowKept.{root_of}
 use Rattle.statement_sources.specs.stored_schema.Indexes.{path_of, lines_on}
 use Rattle.statement_sources.specs.stored_schema.Targets.{IsTargetIn}
 use Rattle.statement_sources.proofs.of_stored_schema.Gathered.{lines_on_are, are_own}
 use Rattle.statement_sources.proofs.of_stored_schema.InTables.{each_own, lines_are_indexes}
-use Rattle.statement_sources.specs.rdo_select.declared.source.Source.{Source}
-use Rattle.statement_sources.specs.rdo_select.Sources.{Listed, source_at, HasSource, AreSourcesOf}
+use Rattle.rdo_select.specs.declared.source.Source.{Source}
+use Rattle.rdo_select.specs.Sources.{Listed, source_at, HasSource, AreSourcesOf}
 use Rattle.statement_sources.specs.Sources.{AreIndexed}
 use Rattle.used_areas.specs.Areas.{relation_areas}
 use Rattle.selection_areas.specs.Areas.{areas_at, ArePlaced}

@@ -15,21 +15,21 @@ use Rattle.relation_rows.specs.declared.stored.StoredRow.{StoredRow}
 use Rattle.relation_rows.specs.Relations.{stored_row}
 use Rattle.sorted_index_laws.proofs.Ordered.{all_append}
 use Rattle.statement_view.specs.Areas.{is_among, IsNeedOf}
-use Rattle.statement_sources.proofs.of_row_writes.AreaLists.{Wider}
+use Rattle.row_writes.proofs.AreaLists.{Wider}
 use Rattle.rdo_values.specs.declared.bound.BoundRange.{BoundRange}
 use Rattle.rdo_values.specs.Tree.{Expression, number, text, field, negative, chain, count, statistic, known, Operations, no_operation, operation, Testing, compare, between, containing, starting_with, missing, any, negated, group, decided, Conjunction, no_test, test, Condition, no_conjunction, conjunction, Ranging, ranging, without_condition, with_condition}
 use Rattle.rdo_values.specs.Named.{named, named_operations, named_testing, named_conjunction, named_condition, named_ranging}
 use Rattle.rdo_values.specs.Rows.{row_of}
 use Rattle.rdo_values.specs.Filled.{verdict_at}
 use Rattle.rdo_values.specs.Places.{IsRangeOf, AreRanges, ranges_in, IsBound, AreBound, IsBoundTesting, IsBoundConjunction, IsBoundCondition, IsBoundRanging}
-use Rattle.statement_sources.specs.rdo_select.declared.source.Source.{Source}
-use Rattle.statement_sources.specs.rdo_select.declared.crossing.Found.{Found}
-use Rattle.statement_sources.specs.rdo_select.Asking.{condition_asks}
-use Rattle.statement_sources.specs.rdo_select.Chosen.{tests_alone}
-use Rattle.statement_sources.specs.rdo_select.Crossed.{behind, no_range}
-use Rattle.statement_sources.specs.rdo_select.Readings.{Reading, LacksFirst}
-use Rattle.statement_sources.specs.rdo_select.Sources.{Listed, source_at, IsSourceOf, HasSource, AreSourcesOf, IsShown, IsAccessOf}
-use Rattle.statement_sources.specs.rdo_select.Work.{Work, reads_all, nothing_read, followed_by, for_each, with_verdict, with_value, valued, judged, Ranged, with_source, ranged, is_read_once, scan_of, read_once, reading_by, read_behind, rows_behind, crossing, come_by, ranges_work, tuples_known, read_for, read_for_operations, read_for_test, read_for_tests, read_for_condition, selecting, valuing, judging}
+use Rattle.rdo_select.specs.declared.source.Source.{Source}
+use Rattle.rdo_select.specs.declared.crossing.Found.{Found}
+use Rattle.rdo_select.specs.Asking.{condition_asks}
+use Rattle.rdo_select.specs.Chosen.{tests_alone}
+use Rattle.rdo_select.specs.Crossed.{behind, no_range}
+use Rattle.rdo_select.specs.Readings.{Reading, LacksFirst}
+use Rattle.rdo_select.specs.Sources.{Listed, source_at, IsSourceOf, HasSource, AreSourcesOf, IsShown, IsAccessOf}
+use Rattle.rdo_select.specs.Work.{Work, reads_all, nothing_read, followed_by, for_each, with_verdict, with_value, valued, judged, Ranged, with_source, ranged, is_read_once, scan_of, read_once, reading_by, read_behind, rows_behind, crossing, come_by, ranges_work, tuples_known, read_for, read_for_operations, read_for_test, read_for_tests, read_for_condition, selecting, valuing, judging}
 use Rattle.used_areas.specs.Areas.{relation_areas, areas_read}
 use Rattle.used_areas.proofs.More.{left_of, right_of, read_left, read_right}
 use Rattle.selection_areas.specs.Areas.{areas_of_source, areas_at, ArePlaced}

@@ -6,8 +6,8 @@ use Rattle.rdb_meaning.specs.declared.tables.Tables.{Tables}
 use Rattle.rdb_meaning.specs.Contents.{relation_named}
 use Rattle.access_paths.specs.declared.choice.IndexPath.{IndexPath}
 use Rattle.used_areas.specs.Areas.{relation_areas}
-use Rattle.statement_sources.specs.rdo_select.declared.source.Source.{Source}
-use Rattle.statement_sources.specs.rdo_select.Sources.{Listed, source_at}
+use Rattle.rdo_select.specs.declared.source.Source.{Source}
+use Rattle.rdo_select.specs.Sources.{Listed, source_at}
 
 -- the area of its relation, and those of its indexes
 abbrev pub areas_of_source : Source → List ℕ

@@ -4,5 +4,3 @@
 mod laws;
 
 pub use laws::{indexes_spare_areas, needs_are_of_relations};
-pub use rdo_select;
-pub use row_writes;

@@ -1,4 +1,3 @@
-pub use Rattle.session_states.proofs.of_line_history as of_line_history
 pub use Rattle.session_states.proofs.of_line_steps as of_line_steps
 pub use Rattle.session_states.proofs as of_session_states
 pub use Rattle.session_states.proofs.of_store_counts as of_store_counts

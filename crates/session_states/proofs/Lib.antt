@@ -1,4 +1,3 @@
-pub use Rattle.line_steps.proofs.of_line_history as of_line_history
 pub use Rattle.line_steps.proofs as of_line_steps
 pub use Rattle.store_counts.proofs as of_store_counts
 pub mod Basics

@@ -1,5 +1,5 @@
 use crate::item_queue::ItemQueue;
-use line_steps::session_jobs::{Needs, TxRecord};
+use line_steps::{Needs, TxRecord};
 use line_view::{Known, Need, Room};
 use lock_needs::Need as LockNeed;
 use rdb_types::{Dbkey, Items};

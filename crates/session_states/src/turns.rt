@@ -3,7 +3,7 @@ ghost use Rattle.std.specs.Prelude.{◌≡◌};
 ghost use Rattle.session_states.specs.Turns.{taken, returned, got_work, got_gather, got_laying, got_end, got, IsPlace, IsWithin, said_writer};
 
 use crate::stage::{End, Gather, Laying, Stage, Work, Writer};
-use line_steps::session_jobs::{Found, TxRecord};
+use line_steps::{Found, TxRecord};
 use line_view::{Known, Writes};
 use rdb_types::Keys;
 use rdo_ast::reply::Reply;

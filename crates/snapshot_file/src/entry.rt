@@ -2,12 +2,10 @@
 ghost use Rattle.std.specs.Prelude.{◌≡◌, List, ℕ, Some, true, false, length, IfSome, IfNone};
 ghost use Rattle.snapshot_file.specs.Entry.{IsEntry, IsAllowed};
 
-use rdb_page::rdb_types::{Dbkey, Image, LineState, Tsn};
-use rdb_page::slot_fields::{
-    bytes_at, has_bytes, has_zeros, put_bytes, put_u8, put_u16, put_u32, put_u64, put_zeros, u8_at,
-    u16_at, u32_at, u64_at,
+use rdb_page::{
+    Dbkey, Image, LineState, Tsn, bytes_at, has_bytes, has_zeros, put_bytes, put_u8, put_u16,
+    put_u32, put_u64, put_zeros, state_byte, state_of, u8_at, u16_at, u32_at, u64_at,
 };
-use rdb_page::{state_byte, state_of};
 
 /// A version of a line, with the transaction that made it so. The transaction that pushed it aside is `pusher`; `previous` is 1 + the slot of the version before, and 0 where none is kept.
 #[derive(Drop)]

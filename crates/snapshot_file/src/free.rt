@@ -2,7 +2,7 @@
 ghost use Rattle.std.specs.Prelude.{◌≡◌, ◌≤◌, ◌<◌, ◌+◌, ℕ, Bool, List, true, false, Err, IfOk, OnErr, length, slice_index};
 ghost use Rattle.snapshot_file.specs.Slots.{is_free, left_in, Takes, Gives, IsOrder, slots_in};
 
-use rdb_page::rdb_types::NoMemory;
+use rdb_page::NoMemory;
 use std::alloc::Global;
 use std::marker::Model;
 

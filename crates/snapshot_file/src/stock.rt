@@ -3,7 +3,7 @@ ghost use Rattle.std.specs.Prelude.{◌≡◌, ◌≤◌, ◌<◌, ◌+◌, ◌-
 ghost use Rattle.snapshot_file.specs.Slots.{is_free, left_in, Takes, Gives, Store};
 
 use crate::{Free, SnapFull};
-use rdb_page::rdb_types::NoMemory;
+use rdb_page::NoMemory;
 use std::alloc::Global;
 use std::marker::Model;
 

@@ -5,9 +5,9 @@ use Rattle.std.specs.declared.cmp.Ordering.{Ordering}
 use Rattle.std.specs.declared.cmp.Ordering.TheVariants.{Less, Equal, Greater}
 use Rattle.std.specs.Ordering.{is_eq}
 use Rattle.std.specs.List.{AllByRecursion}
-use Rattle.index_node.specs.rdb_types.declared.keys.Dbkey.{Dbkey}
-use Rattle.index_node.specs.rdb_types.Order.{dbkey_order}
-use Rattle.index_node.specs.rdb_types.OrderLaws.{same_dbkey}
+use Rattle.rdb_types.specs.declared.keys.Dbkey.{Dbkey}
+use Rattle.rdb_types.specs.Order.{dbkey_order}
+use Rattle.rdb_types.specs.OrderLaws.{same_dbkey}
 use Rattle.index_node.specs.declared.entry.NodeEntry.{NodeEntry}
 use Rattle.index_node.specs.declared.node.IndexNode.{IndexNode}
 use Rattle.line_view.specs.Knowledge.{Lines, Knowledge, Agrees, line_in}

@@ -7,7 +7,7 @@ use Rattle.std.specs.List.{AllByRecursion, filter}
 use Rattle.std.proofs.lemmas.List.{map-append}
 use Rattle.std.proofs.lemmas.List.Elements.{filter-append}
 use Rattle.index_node.specs.declared.entry.NodeEntry.{NodeEntry}
-use Rattle.index_node.specs.rdb_types.Order.{row_order, dbkey_order}
+use Rattle.rdb_types.specs.Order.{row_order, dbkey_order}
 use Rattle.index_node.specs.Order.{entry_order}
 use Rattle.sorted_index_laws.specs.Keys.{Interval, is_within}
 use Rattle.sorted_index_laws.specs.Tree.{Tree, pairs, IsPartedFrom, AreParted}

@@ -6,7 +6,7 @@ use Rattle.std.specs.Ordering.{is_le}
 use Rattle.std.specs.List.{AllByRecursion}
 use Rattle.std.proofs.lemmas.Grind.{flat_map-append}
 use Rattle.std.proofs.lemmas.List.{map-append}
-use Rattle.index_node.specs.rdb_types.declared.keys.Dbkey.{Dbkey}
+use Rattle.rdb_types.specs.declared.keys.Dbkey.{Dbkey}
 use Rattle.index_node.specs.declared.entry.NodeEntry.{NodeEntry}
 use Rattle.index_node.specs.Order.{entry_order}
 use Rattle.line_view.specs.Knowledge.{Lines, Knowledge}

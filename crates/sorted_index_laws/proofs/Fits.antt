@@ -4,10 +4,10 @@ use Rattle.std.specs.Prelude.{IsSome}
 use Rattle.std.specs.Ordering.{is_eq, is_le}
 use Rattle.std.specs.List.{All, AllByRecursion, flat_map, list_any}
 use Rattle.std.proofs.lemmas.List.Elements.{All-from_recursion, recursion_from_All}
-use Rattle.index_node.specs.slot_fields.Fields.{size}
-use Rattle.index_node.proofs.of_slot_fields.Laws.{size_append}
-use Rattle.index_node.specs.rdb_types.declared.keys.Dbkey.{Dbkey}
-use Rattle.index_node.specs.rdb_types.declared.values.Value.{Value}
+use Rattle.slot_fields.specs.Fields.{size}
+use Rattle.slot_fields.proofs.Laws.{size_append}
+use Rattle.rdb_types.specs.declared.keys.Dbkey.{Dbkey}
+use Rattle.rdb_types.specs.declared.values.Value.{Value}
 use Rattle.index_node.specs.record_format.Values.{values_fields, IsValue}
 use Rattle.index_node.specs.declared.entry.NodeEntry.{NodeEntry}
 use Rattle.index_node.specs.declared.node.IndexNode.{IndexNode}

@@ -4,9 +4,9 @@ use Rattle.std.specs.declared.cmp.Ordering.{Ordering}
 use Rattle.std.specs.declared.cmp.Ordering.TheVariants.{Less, Equal, Greater}
 use Rattle.std.specs.Ordering.{is_lt, is_le, is_gt, is_ge, ordering_then, ordering_reverse}
 use Rattle.std.proofs.lemmas.Cmp.{upto}
-use Rattle.index_node.specs.rdb_types.declared.values.Value.{Value}
-use Rattle.index_node.specs.rdb_types.Order.{value_order, row_order}
-use Rattle.index_node.specs.rdb_types.OrderLaws.{row_total}
+use Rattle.rdb_types.specs.declared.values.Value.{Value}
+use Rattle.rdb_types.specs.Order.{value_order, row_order}
+use Rattle.rdb_types.specs.OrderLaws.{row_total}
 use Rattle.sorted_index_laws.specs.declared.bounds.Bounds.{Bounds}
 use Rattle.sorted_index_laws.specs.Keys.{Interval, only, is_below_low, is_above_high, between}
 

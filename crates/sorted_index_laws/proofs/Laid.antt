@@ -4,8 +4,8 @@ use Rattle.std.specs.Prelude.{◌⊎◌}
 use Rattle.std.specs.Ordering.{is_eq}
 use Rattle.std.specs.List.{AllByRecursion, flat_map, remove}
 use Rattle.std.proofs.lemmas.List.Elements.{All-from_recursion, recursion_from_All}
-use Rattle.index_node.specs.slot_fields.Fields.{size}
-use Rattle.index_node.proofs.of_slot_fields.Laws.{size_append, whole_ends}
+use Rattle.slot_fields.specs.Fields.{size}
+use Rattle.slot_fields.proofs.Laws.{size_append, whole_ends}
 use Rattle.index_node.specs.declared.entry.NodeEntry.{NodeEntry}
 use Rattle.index_node.specs.declared.node.IndexNode.{IndexNode}
 use Rattle.index_node.specs.Order.{entry_order}

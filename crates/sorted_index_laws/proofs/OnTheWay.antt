@@ -3,9 +3,9 @@ use Rattle.std.proofs.Common.{◌≡◌, ℕ, zero, suc, Bool, true, false, cond
 use Rattle.std.specs.Prelude.{◌||◌, is_none, is_some}
 use Rattle.std.specs.Ordering.{is_eq}
 use Rattle.std.specs.List.{AllByRecursion, flat_map}
-use Rattle.index_node.specs.rdb_types.declared.keys.Dbkey.{Dbkey}
-use Rattle.index_node.specs.rdb_types.Order.{dbkey_order}
-use Rattle.index_node.specs.rdb_types.OrderLaws.{same_dbkey}
+use Rattle.rdb_types.specs.declared.keys.Dbkey.{Dbkey}
+use Rattle.rdb_types.specs.Order.{dbkey_order}
+use Rattle.rdb_types.specs.OrderLaws.{same_dbkey}
 use Rattle.index_node.specs.declared.entry.NodeEntry.{NodeEntry}
 use Rattle.line_view.specs.Knowledge.{Lines, Knowledge, Agrees, line_in}
 use Rattle.sorted_index_laws.specs.Tree.{Tree, place, places, IsIndex}

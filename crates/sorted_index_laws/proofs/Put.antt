@@ -4,8 +4,8 @@ use Rattle.std.specs.declared.cmp.Ordering.{Ordering}
 use Rattle.std.specs.declared.cmp.Ordering.TheVariants.{Less, Equal, Greater}
 use Rattle.std.specs.Ordering.{is_lt, is_eq, ordering_reverse}
 use Rattle.std.specs.List.{AllByRecursion, flat_map, list_any}
-use Rattle.index_node.specs.slot_fields.Fields.{size}
-use Rattle.index_node.proofs.of_slot_fields.Laws.{size_append}
+use Rattle.slot_fields.specs.Fields.{size}
+use Rattle.slot_fields.proofs.Laws.{size_append}
 use Rattle.index_node.specs.declared.entry.NodeEntry.{NodeEntry}
 use Rattle.index_node.specs.Order.{entry_order}
 use Rattle.index_node.specs.OrderLaws.{entries_total}

@@ -5,7 +5,7 @@ use Rattle.std.specs.Option.{option_or}
 use Rattle.std.specs.List.{AllByRecursion, flat_map}
 use Rattle.std.proofs.lemmas.List.{drop_all, drop-map, append-nil, length-map}
 use Rattle.std.proofs.lemmas.List.Folds.{find-append}
-use Rattle.index_node.specs.rdb_types.declared.keys.Dbkey.{Dbkey}
+use Rattle.rdb_types.specs.declared.keys.Dbkey.{Dbkey}
 use Rattle.index_node.specs.declared.entry.NodeEntry.{NodeEntry}
 use Rattle.index_node.specs.declared.node.IndexNode.{IndexNode}
 use Rattle.index_node.proofs.Nodes.{one_node}

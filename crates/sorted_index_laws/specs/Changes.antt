@@ -2,9 +2,9 @@
 use Rattle.std.specs.Prelude.{◌≡◌, ℕ, zero, suc, Bool, false, true, not, ◌&&◌, ◌||◌, is_none, List, [], ◌∷◌, map, Some, None, option_map, Result, Ok, Err, if◌then◌else◌}
 use Rattle.std.specs.Ordering.{is_lt, is_le, is_eq}
 use Rattle.std.specs.List.{AllByRecursion, IsDistinct, filter, flat_map, list_any}
-use Rattle.index_node.specs.rdb_types.declared.keys.Dbkey.{Dbkey}
-use Rattle.index_node.specs.rdb_types.declared.values.Value.{Value}
-use Rattle.index_node.specs.rdb_types.Order.{dbkey_order, row_order}
+use Rattle.rdb_types.specs.declared.keys.Dbkey.{Dbkey}
+use Rattle.rdb_types.specs.declared.values.Value.{Value}
+use Rattle.rdb_types.specs.Order.{dbkey_order, row_order}
 use Rattle.index_node.specs.declared.entry.NodeEntry.{NodeEntry}
 use Rattle.index_node.specs.Order.{entry_order}
 use Rattle.line_view.specs.declared.need.Need.TheVariants.{Line}

@@ -2,8 +2,8 @@
 use Rattle.std.specs.Prelude.{Bool, false, not, ◌&&◌, List, length, take, Option, Some, None, if◌then◌else◌}
 use Rattle.std.specs.declared.cmp.Ordering.{Ordering}
 use Rattle.std.specs.Ordering.{is_lt, is_le, is_gt, is_ge}
-use Rattle.index_node.specs.rdb_types.declared.values.Value.{Value}
-use Rattle.index_node.specs.rdb_types.Order.{row_order}
+use Rattle.rdb_types.specs.declared.values.Value.{Value}
+use Rattle.rdb_types.specs.Order.{row_order}
 use Rattle.sorted_index_laws.specs.declared.bounds.Bounds.{Bounds}
 
 -- Keys that follow one another in the order of keys: those that are neither below nor above.

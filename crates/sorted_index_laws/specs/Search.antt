@@ -1,7 +1,7 @@
 -- What a search of an index finds, and what it reads for that.
 use Rattle.std.specs.Prelude.{◌≡◌, ℕ, zero, suc, Bool, true, false, not, ◌&&◌, ◌||◌, List, [], ◌∷◌, map, Option, Some, None, is_none, option_map, Result, Ok, Err, if◌then◌else◌}
 use Rattle.std.specs.List.{filter, find, flat_map}
-use Rattle.index_node.specs.rdb_types.declared.keys.Dbkey.{Dbkey}
+use Rattle.rdb_types.specs.declared.keys.Dbkey.{Dbkey}
 use Rattle.index_node.specs.declared.entry.NodeEntry.{NodeEntry}
 use Rattle.line_view.specs.declared.need.Need.TheVariants.{Line}
 use Rattle.line_view.specs.Knowledge.{Knowledge}

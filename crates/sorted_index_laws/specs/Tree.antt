@@ -3,8 +3,8 @@ use Rattle.std.specs.Prelude.{◌≡◌, ◌≢◌, ℕ, zero, suc, Bool, true, 
 use Rattle.std.specs.declared.cmp.Ordering.TheVariants.{Less, Greater}
 use Rattle.std.specs.Ordering.{is_eq}
 use Rattle.std.specs.List.{AllByRecursion, flat_map, IsDistinct}
-use Rattle.index_node.specs.rdb_types.declared.keys.Dbkey.{Dbkey}
-use Rattle.index_node.specs.rdb_types.Order.{dbkey_order}
+use Rattle.rdb_types.specs.declared.keys.Dbkey.{Dbkey}
+use Rattle.rdb_types.specs.Order.{dbkey_order}
 use Rattle.index_node.specs.declared.entry.NodeEntry.{NodeEntry}
 use Rattle.index_node.specs.declared.node.IndexNode.{IndexNode}
 use Rattle.index_node.specs.Order.{entry_order}

@@ -1,7 +1,7 @@
 // Laws of the pairs that indexes hold.
 ghost use Rattle.std.specs.Prelude.{◌≡◌, ℕ, true, List, Some, None};
 ghost use Rattle.std.specs.List.Sorted.{IsStrictlySortedBy};
-ghost use Rattle.index_node.specs.rdb_types.declared.keys.Dbkey.{Dbkey as Place};
+ghost use Rattle.rdb_types.specs.declared.keys.Dbkey.{Dbkey as Place};
 ghost use Rattle.index_node.specs.Order.{entry_order};
 ghost use Rattle.index_node.specs.declared.entry.NodeEntry.{NodeEntry as Pair};
 ghost use Rattle.line_view.specs.Knowledge.{Lines, Knowledge, Agrees};

@@ -6,7 +6,7 @@ mod laws;
 mod stop;
 
 pub use bounds::Bounds;
-pub use index_node::record_format;
+pub use index_node::{VersionedRow, read_row};
 pub use laws::{pairs_are_ordered, the_way_is_in_the_index};
-pub use line_view;
+pub use line_view::{Need, Never, Seen, Stop, View};
 pub use stop::{Duplicate, IndexStop};

@@ -18,9 +18,9 @@ use Rattle.sound_lines.specs.catalog.Reading.{catalog_area, line_keys, IsPresent
 use Rattle.sound_lines.specs.relation_rows.declared.stored.StoredRelation.{StoredRelation}
 use Rattle.sound_lines.specs.relation_rows.Stored.{AreRowsOf}
 use Rattle.sound_lines.specs.relation_rows.Relations.{stored_row, HasRows}
-use Rattle.sound_lines.specs.sorted_index_laws.Tree.{Tree, places, IsIndex}
-use Rattle.sound_lines.proofs.of_sorted_index_laws.Frame.{stands_beside}
-use Rattle.sound_lines.proofs.of_sorted_index_laws.After.{areas}
+use Rattle.sorted_index_laws.specs.Tree.{Tree, places, IsIndex}
+use Rattle.sorted_index_laws.proofs.Frame.{stands_beside}
+use Rattle.sorted_index_laws.proofs.After.{areas}
 use Rattle.sound_lines.specs.Sound.{IsSoundIndex}
 use Rattle.sound_lines.specs.relation_rows.Indexed.{IsIndexOf}
 use Rattle.sound_changes.proofs.Basics.{keys_apart, all_of, both_of}

@@ -17,7 +17,7 @@ use Rattle.line_view.specs.Knowledge.{Lines, line_in, lines_in, keys_of}
 use Rattle.catalog_lines.specs.declared.line.CatalogLine.{CatalogLine}
 use Rattle.catalog_lines.specs.Lines.{IsRelationArea}
 use Rattle.sound_lines.specs.catalog.declared.reading.Catalog.{Catalog}
-use Rattle.sound_lines.specs.sorted_index_laws.Changes.{has_key}
+use Rattle.sorted_index_laws.specs.Changes.{has_key}
 use Rattle.sound_lines.specs.Contents.{versions_in}
 use Rattle.sound_changes.specs.Standing.{IsSoundFor, IsSoundAs}
 use Rattle.sound_changes.proofs.Changed.{row_keys, rows_in}

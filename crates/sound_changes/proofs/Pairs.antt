@@ -17,7 +17,7 @@ use Rattle.index_node.specs.Order.{entry_order}
 use Rattle.index_node.specs.OrderLaws.{entries_total}
 use Rattle.sound_lines.specs.relation_rows.Indexed.{pairs_of}
 use Rattle.rdb_types.specs.OrderLaws.{row_total}
-use Rattle.sound_lines.specs.sorted_index_laws.Changes.{pair_of, with_pair, has_key}
+use Rattle.sorted_index_laws.specs.Changes.{pair_of, with_pair, has_key}
 use Rattle.sound_changes.proofs.Basics.{less}
 
 -- ---- pairs are put in any order

@@ -16,7 +16,7 @@ use Rattle.rdb_meaning.specs.Defining.{keys_repeat}
 use Rattle.index_node.specs.declared.entry.NodeEntry.{NodeEntry}
 use Rattle.index_node.specs.Order.{entry_order}
 use Rattle.index_node.specs.OrderLaws.{entries_total}
-use Rattle.sound_lines.specs.sorted_index_laws.Changes.{pair_of, with_pair, without_pair}
+use Rattle.sorted_index_laws.specs.Changes.{pair_of, with_pair, without_pair}
 use Rattle.sound_changes.proofs.Basics.{equal, less, fails, none_below}
 use Rattle.sound_lines.specs.relation_rows.Indexed.{pairs_of}
 use Rattle.rdb_types.specs.OrderLaws.{dbkey_total, same_dbkey}

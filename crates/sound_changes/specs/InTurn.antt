@@ -11,8 +11,8 @@ use Rattle.catalog_lines.specs.declared.line.IndexLine.{IndexLine}
 use Rattle.catalog_lines.specs.declared.line.CatalogLine.TheVariants.{Index}
 use Rattle.sound_lines.specs.catalog.declared.directory.PlacedLine.{PlacedLine}
 use Rattle.sound_lines.specs.catalog.declared.reading.Catalog.{Catalog}
-use Rattle.sound_lines.specs.sorted_index_laws.Tree.{pairs}
-use Rattle.sound_lines.specs.sorted_index_laws.Changes.{pair_of, with_pair, without_pair, has_key, Leaves}
+use Rattle.sorted_index_laws.specs.Tree.{pairs}
+use Rattle.sorted_index_laws.specs.Changes.{pair_of, with_pair, without_pair, has_key, Leaves}
 use Rattle.sound_lines.specs.Sound.{IsSoundIndex}
 use Rattle.sound_changes.specs.Standing.{IsDone}
 

@@ -8,4 +8,4 @@ pub use laws::{
     a_relation_has_its_version, a_room_may_be_given, a_row_goes_through_its_indexes,
     a_row_is_written, an_index_waits, indexes_are_done, is_sound_as, the_schema_stays,
 };
-pub use sound_lines;
+pub use sound_lines::{version_of, versions_of};

@@ -4,8 +4,8 @@ use Rattle.std.proofs.lemmas.Option.{same_Some}
 use Rattle.rdb_types.specs.declared.values.Value.{Value}
 use Rattle.rdb_types.specs.declared.keys.Dbkey.{Dbkey}
 use Rattle.rdo_ast.specs.Tree.{Name}
-use Rattle.relation_rows.specs.rdb_meaning.declared.tables.Relation.{Relation}
-use Rattle.relation_rows.specs.rdb_meaning.declared.tables.Tables.{Tables}
+use Rattle.rdb_meaning.specs.declared.tables.Relation.{Relation}
+use Rattle.rdb_meaning.specs.declared.tables.Tables.{Tables}
 use Rattle.line_view.specs.declared.stop.Stop.TheVariants.{Bad}
 use Rattle.line_view.specs.Knowledge.{Knowledge, Lines, IsInOrder, Agrees, line_in, lines_in, keys_of}
 use Rattle.line_view.proofs.Agreements.{Found, found_all, found_some}

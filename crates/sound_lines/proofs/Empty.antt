@@ -1,7 +1,7 @@
 -- The map without lines.
 use Rattle.std.proofs.Common.{[], refl, arith}
 use Rattle.catalog.specs.Reading.{IsCatalogOf}
-use Rattle.relation_rows.specs.rdb_meaning.Contents.{no_tables}
+use Rattle.rdb_meaning.specs.Contents.{no_tables}
 use Rattle.sound_lines.specs.Contents.{AreTablesWith, AreTablesOf}
 use Rattle.sound_lines.specs.Sound.{IsSound}
 

@@ -10,7 +10,7 @@ use Rattle.rdb_types.specs.declared.values.Value.{Value}
 use Rattle.rdb_types.specs.declared.keys.Dbkey.{Dbkey}
 use Rattle.rdb_types.specs.Order.{dbkey_order}
 use Rattle.rdb_types.specs.OrderLaws.{dbkey_total, same_dbkey}
-use Rattle.relation_rows.specs.rdb_meaning.Contents.{Row}
+use Rattle.rdb_meaning.specs.Contents.{Row}
 use Rattle.line_view.specs.Knowledge.{Lines, IsInOrder, line_in, lines_in, laid}
 use Rattle.line_view.proofs.FullMap.{other_area}
 use Rattle.relation_rows.specs.declared.stored.StoredRelation.{StoredRelation}

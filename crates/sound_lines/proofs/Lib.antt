@@ -1,5 +1,4 @@
 pub use Rattle.catalog.proofs as of_catalog
-pub use Rattle.relation_rows.proofs.of_sorted_index_laws as of_sorted_index_laws
 pub mod Gathering
 pub mod RowsRead
 pub mod RelationsRead

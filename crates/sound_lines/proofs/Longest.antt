@@ -6,8 +6,8 @@ use Rattle.std.proofs.lemmas.List.{append_assoc}
 use Rattle.std.proofs.lemmas.List.Sums.{sum_by-cons}
 use Rattle.rdb_types.specs.declared.values.Field.{Field}
 use Rattle.rdo_ast.specs.Tree.{Name}
-use Rattle.relation_rows.specs.rdb_meaning.Contents.{same_name, place_from, place_of}
-use Rattle.relation_rows.specs.rdb_meaning.Defining.{place_number, positions_of, longest_field, longest_at, longest_key as longest_of_names}
+use Rattle.rdb_meaning.specs.Contents.{same_name, place_from, place_of}
+use Rattle.rdb_meaning.specs.Defining.{place_number, positions_of, longest_field, longest_at, longest_key as longest_of_names}
 use Rattle.sound_lines.specs.Sound.{longest_in, longest_key}
 
 abbrev longest_if : List Field → Option ℕ → ℕ

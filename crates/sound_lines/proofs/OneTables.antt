@@ -2,9 +2,9 @@
 use Rattle.std.proofs.Common.{◌≡◌, ℕ, List, [], ◌∷◌, map, refl, sym, subst, ◌∙◌}
 use Rattle.rdb_types.specs.declared.keys.Dbkey.{Dbkey}
 use Rattle.rdo_ast.specs.Tree.{Name}
-use Rattle.relation_rows.specs.rdb_meaning.declared.tables.Relation.{Relation}
-use Rattle.relation_rows.specs.rdb_meaning.declared.tables.Tables.{Tables}
-use Rattle.relation_rows.specs.rdb_meaning.Contents.{Row}
+use Rattle.rdb_meaning.specs.declared.tables.Relation.{Relation}
+use Rattle.rdb_meaning.specs.declared.tables.Tables.{Tables}
+use Rattle.rdb_meaning.specs.Contents.{Row}
 use Rattle.line_view.specs.Knowledge.{Lines, lines_in}
 use Rattle.catalog.specs.declared.reading.Catalog.{Catalog}
 use Rattle.catalog.proofs.Agreements.{one_catalog}

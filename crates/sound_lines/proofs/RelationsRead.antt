@@ -4,7 +4,7 @@ use Rattle.std.specs.List.{AllByRecursion}
 use Rattle.std.specs.FinMap.Entries.{put, is_sorted}
 use Rattle.std.proofs.lemmas.List.{append-nil, append_assoc}
 use Rattle.rdo_ast.specs.Tree.{Name}
-use Rattle.relation_rows.specs.rdb_meaning.declared.tables.Relation.{Relation}
+use Rattle.rdb_meaning.specs.declared.tables.Relation.{Relation}
 use Rattle.rdb_types.specs.Order.{chars_order}
 use Rattle.rdb_types.specs.OrderLaws.{chars_total}
 use Rattle.line_view.specs.declared.stop.Stop.{Stop}

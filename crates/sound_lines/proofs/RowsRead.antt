@@ -8,7 +8,7 @@ use Rattle.rdb_types.specs.declared.values.Field.{Field}
 use Rattle.rdb_types.specs.declared.keys.Dbkey.{Dbkey}
 use Rattle.rdb_types.specs.Order.{dbkey_order}
 use Rattle.rdb_types.specs.OrderLaws.{dbkey_total}
-use Rattle.relation_rows.specs.rdb_meaning.Contents.{Row}
+use Rattle.rdb_meaning.specs.Contents.{Row}
 use Rattle.line_view.specs.declared.need.Need.TheVariants.{Line}
 use Rattle.line_view.specs.declared.stop.Stop.{Stop}
 use Rattle.line_view.specs.declared.stop.Never.{Never}

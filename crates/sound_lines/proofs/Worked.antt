@@ -7,10 +7,10 @@ use Rattle.slot_fields.specs.Fields.{number_at}
 use Rattle.rdb_types.specs.declared.values.Value.TheVariants.{Number}
 use Rattle.record_format.specs.Values.{IsValue}
 use Rattle.record_format.specs.Rows.{IsRowImage}
-use Rattle.catalog.specs.catalog_lines.declared.line.CatalogLine.{CatalogLine}
-use Rattle.catalog.specs.catalog_lines.declared.line.CatalogLine.TheVariants.{Relation, Field as FieldOf, Index}
-use Rattle.catalog.specs.catalog_lines.Parts.{IsName, is_name_byte}
-use Rattle.catalog.specs.catalog_lines.Lines.{IsCatalogLine}
+use Rattle.catalog_lines.specs.declared.line.CatalogLine.{CatalogLine}
+use Rattle.catalog_lines.specs.declared.line.CatalogLine.TheVariants.{Relation, Field as FieldOf, Index}
+use Rattle.catalog_lines.specs.Parts.{IsName, is_name_byte}
+use Rattle.catalog_lines.specs.Lines.{IsCatalogLine}
 use Rattle.catalog.specs.declared.directory.PlacedLine.{PlacedLine}
 use Rattle.catalog.specs.declared.reading.Catalog.{Catalog}
 use Rattle.catalog.specs.Schema.{catalog_tables, relation_fields}

@@ -3,12 +3,12 @@ use Rattle.std.specs.Prelude.{◌≡◌, ℕ, List, [], ◌∷◌}
 use Rattle.std.specs.Option.{unwrap_or}
 use Rattle.std.specs.FinMap.Entries.{find, put}
 use Rattle.rdo_ast.specs.Tree.{Name}
-use Rattle.relation_rows.specs.rdb_meaning.declared.tables.Relation.{Relation as Rows}
-use Rattle.relation_rows.specs.rdb_meaning.declared.tables.Tables.{Tables}
+use Rattle.rdb_meaning.specs.declared.tables.Relation.{Relation as Rows}
+use Rattle.rdb_meaning.specs.declared.tables.Tables.{Tables}
 use Rattle.rdb_types.specs.Order.{chars_order}
 use Rattle.line_view.specs.Knowledge.{Lines}
-use Rattle.catalog.specs.catalog_lines.declared.line.CatalogLine.{CatalogLine}
-use Rattle.catalog.specs.catalog_lines.declared.line.CatalogLine.TheVariants.{Relation, Global, Field, Index}
+use Rattle.catalog_lines.specs.declared.line.CatalogLine.{CatalogLine}
+use Rattle.catalog_lines.specs.declared.line.CatalogLine.TheVariants.{Relation, Global, Field, Index}
 use Rattle.catalog.specs.declared.directory.PlacedLine.{PlacedLine}
 use Rattle.catalog.specs.declared.reading.Catalog.{Catalog}
 use Rattle.catalog.specs.Reading.{IsCatalogOf}

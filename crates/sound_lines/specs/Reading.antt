@@ -3,7 +3,7 @@ use Rattle.std.specs.Prelude.{◌≡◌, ℕ, List, ◌∷◌, ◌++◌, Some}
 use Rattle.std.specs.List.{AllByRecursion}
 use Rattle.rdb_types.specs.declared.keys.Dbkey.{Dbkey}
 use Rattle.rdo_ast.specs.Tree.{Name}
-use Rattle.relation_rows.specs.rdb_meaning.declared.tables.Relation.{Relation as Rows}
+use Rattle.rdb_meaning.specs.declared.tables.Relation.{Relation as Rows}
 use Rattle.line_view.specs.declared.stop.Stop.{Stop}
 use Rattle.line_view.specs.declared.stop.Never.{Never}
 use Rattle.line_view.specs.declared.stop.Stop.TheVariants.{Missing, Bad}

@@ -4,15 +4,15 @@ use Rattle.std.specs.List.{AllByRecursion}
 use Rattle.rdb_types.specs.declared.keys.Dbkey.{Dbkey}
 use Rattle.rdb_types.specs.declared.values.Field.{Field}
 use Rattle.rdo_ast.specs.Tree.{Name}
-use Rattle.relation_rows.specs.rdb_meaning.declared.tables.Relation.{Relation as Rows}
-use Rattle.relation_rows.specs.rdb_meaning.declared.tables.Tables.{Tables}
-use Rattle.relation_rows.specs.rdb_meaning.Contents.{rows_of, fields_of, longest_value, class_of}
-use Rattle.relation_rows.specs.rdb_meaning.Defining.{keys_repeat}
+use Rattle.rdb_meaning.specs.declared.tables.Relation.{Relation as Rows}
+use Rattle.rdb_meaning.specs.declared.tables.Tables.{Tables}
+use Rattle.rdb_meaning.specs.Contents.{rows_of, fields_of, longest_value, class_of}
+use Rattle.rdb_meaning.specs.Defining.{keys_repeat}
 use Rattle.line_view.specs.Knowledge.{Lines}
-use Rattle.catalog.specs.catalog_lines.declared.line.RelationLine.{RelationLine}
-use Rattle.catalog.specs.catalog_lines.declared.line.IndexLine.{IndexLine}
-use Rattle.catalog.specs.catalog_lines.declared.line.CatalogLine.{CatalogLine}
-use Rattle.catalog.specs.catalog_lines.declared.line.CatalogLine.TheVariants.{Relation, Global, Field as FieldOf, Index}
+use Rattle.catalog_lines.specs.declared.line.RelationLine.{RelationLine}
+use Rattle.catalog_lines.specs.declared.line.IndexLine.{IndexLine}
+use Rattle.catalog_lines.specs.declared.line.CatalogLine.{CatalogLine}
+use Rattle.catalog_lines.specs.declared.line.CatalogLine.TheVariants.{Relation, Global, Field as FieldOf, Index}
 use Rattle.catalog.specs.declared.reading.Catalog.{Catalog}
 use Rattle.catalog.specs.Reading.{IsCatalogOf}
 use Rattle.relation_rows.specs.Indexed.{IsIndexOf}

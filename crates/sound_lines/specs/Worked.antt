@@ -4,7 +4,7 @@ use Rattle.rdb_types.specs.declared.keys.Dbkey.{Dbkey}
 use Rattle.rdb_types.specs.declared.values.Field.{Field}
 use Rattle.rdb_types.specs.declared.values.DataType.TheVariants.{Word}
 use Rattle.rdb_types.specs.declared.values.Value.TheVariants.{Number}
-use Rattle.relation_rows.specs.rdb_meaning.declared.tables.Tables.{Tables}
+use Rattle.rdb_meaning.specs.declared.tables.Tables.{Tables}
 use Rattle.line_view.specs.Knowledge.{Lines}
 
 abbrev pub at_page : ℕ → ℕ → Dbkey

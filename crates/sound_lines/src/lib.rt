@@ -8,7 +8,6 @@ mod sizes;
 mod tables;
 mod versions;
 
-pub use catalog;
 pub use laws::{
     bad_is_no_tables, empty_is_sound, key_of_names, one_tables, rows_follow_lines,
     sound_has_tables, worked_is_sound,

@@ -8,8 +8,8 @@ use crate::rows::read_relation;
 use crate::versions::version_of;
 use line_view::{Never, Stop, View};
 use ordered_entries::Entries;
+use rdb_meaning::Relation;
 use rdb_types::{Chars, Copied};
-use relation_rows::rdb_meaning::Relation;
 use std::alloc::Global;
 
 pub(crate) fn read_relations<V: View>(

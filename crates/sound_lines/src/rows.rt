@@ -8,8 +8,8 @@ ghost use Rattle.sound_lines.specs.Reading.{StopsRows};
 
 use line_view::{Need, Never, Stop, View};
 use ordered_entries::Entries;
+use rdb_meaning::Relation;
 use rdb_types::{Copied, Dbkey, Row};
-use relation_rows::rdb_meaning::Relation;
 use relation_rows::{StoredRelation, row};
 use std::alloc::Global;
 

@@ -2,7 +2,7 @@
 ghost use Rattle.std.specs.Prelude.{◌≡◌, ◌≤◌, length, slice_get};
 ghost use Rattle.sound_lines.specs.Sound.{longest_in, longest_key as longest_key_of};
 
-use catalog::row_sizes::longest_value;
+use catalog::longest_value;
 use rdb_types::Field;
 
 fn longest_at(position: u16, fields: &[Field]) -> u32

@@ -8,7 +8,7 @@ use crate::relations::read_relations;
 use crate::versions::versions_of;
 use catalog::{Catalog, read_catalog};
 use line_view::{Never, Stop, View};
-use relation_rows::rdb_meaning::Tables;
+use rdb_meaning::Tables;
 use std::alloc::Global;
 
 /// The tables that a view shows: those of its catalog, with the rows of their relations. Where the view doesn't know a line or the keys of a logical area that are read next, the need is answered; where a line's bytes are no line of the catalog, no row of its relation, or don't go with the others, its Dbkey. The catalog is read first, and then the relations in the order of their names.

@@ -3,7 +3,7 @@ ghost use Rattle.std.specs.Prelude.{◌≡◌, OnOk, IfOk};
 ghost use Rattle.sound_lines.specs.Contents.{with_version, versions_in, version_of as version_at};
 
 use catalog::PlacedLine;
-use catalog::catalog_lines::CatalogLine;
+use catalog_lines::CatalogLine;
 use ordered_entries::Entries;
 use rdb_types::{Chars, Copied, NoMemory};
 use std::alloc::Global;

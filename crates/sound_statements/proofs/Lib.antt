@@ -1,4 +1,3 @@
-pub use Rattle.sound_definitions.proofs as of_sound_definitions
 pub mod Common
 pub mod Fields
 pub mod Relations

@@ -7,11 +7,10 @@ ghost use Rattle.area_files.specs.slot_fields.Fields.{HasPart};
 ghost use Rattle.area_files.specs.Areas.{IsPage, IsDataPage, space_page_of as space_of, index_of};
 ghost use Rattle.space_pages.specs.Space.{head_fields, entry_place, owner_at, level_at as level_in, owner_of, level_of as level_said, entries_of as count_of, HasNoMore, IsWritten, IsSpace, IsBeside, level_for};
 
-use area_files::rdb_page::BadPage;
-use area_files::slot_fields::{
-    has_bytes, has_zeros, is_zeros, put_bytes, put_u8, put_u32, put_zeros, u8_at, u32_at,
+use area_files::{
+    BadPage, has_bytes, has_zeros, is_space_page, is_zeros, put_bytes, put_u8, put_u32, put_zeros,
+    space_entry_of, u8_at, u32_at,
 };
-use area_files::{is_space_page, space_entry_of};
 
 /// Where the entry of a page stands.
 fn place_of(page: u32) -> usize

@@ -9,7 +9,7 @@ ghost use Rattle.stable_lines.specs.Facts.{Facts};
 ghost use Rattle.stable_lines.specs.History.{History, IsAt, StandsFrom, GoesOn, state_of, state_with, with_try, with_commit};
 ghost use Rattle.stable_lines.specs.Rolling.{IsBehind, Rolls};
 
-use journal_reading::rdb_outside::Disk;
+use journal_reading::Disk;
 
 /// From the moment of a commit on, each image stands for a state reached from that commit on, or tried since.
 pub fn images_since_a_commit<D: Disk>(disk: &D)

@@ -12,7 +12,7 @@ ghost use Rattle.stable_lines.specs.Progress.{Open, Progress};
 ghost use Rattle.stable_lines.specs.Facts.{Facts, StandsAs};
 ghost use Rattle.stable_lines.specs.Opening.{IsFound, found};
 
-use journal_reading::rdb_outside::Disk;
+use journal_reading::Disk;
 
 /// Each image that a crash may leave is kept. It stands for what is committed, or, where the group in flight is whole in it, for that with the group.
 pub fn each_image_stands<D: Disk>(disk: &D)

@@ -7,7 +7,7 @@ mod steps;
 
 pub use history::{backups_roll_forward, images_since_a_commit};
 pub use laws::{each_image_stands, new_is_kept, one_journal, one_map, opening_finds};
-pub use new_database::{aij_journal, root_file};
-pub use ruj_journal;
-pub use space_pages;
+pub use new_database::{AijPart, Root, put_root, put_slot};
+pub use ruj_journal::{RujEntry, open_tsn, put_entry, put_header, read_entry};
+pub use space_pages::{check, owner, set};
 pub use steps::{a_barrier_gains, a_write_keeps_the_facts, beginnings_keep_the_facts};

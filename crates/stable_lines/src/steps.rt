@@ -19,7 +19,7 @@ ghost use Rattle.stable_lines.specs.Progress.{Open, Flight, Progress, begun, sav
 ghost use Rattle.stable_lines.specs.Facts.{Facts, RootStands};
 ghost use Rattle.stable_lines.specs.Steps.{IsReady, MayBeSpace, NamesNone};
 
-use journal_reading::rdb_outside::Disk;
+use journal_reading::Disk;
 
 /// A write keeps the facts, whether it answered Ok or failed: they are the facts of the same progress.
 pub fn a_write_keeps_the_facts<D: Disk>(before: &D, after: &D)

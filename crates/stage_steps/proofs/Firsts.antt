@@ -21,7 +21,7 @@ use Rattle.line_view.specs.Knowledge.{Knowledge, Agrees}
 use Rattle.line_view.specs.Writes.{laid_all}
 use Rattle.line_view.specs.declared.writes.Write.{Write}
 use Rattle.kept_apart.proofs.Alike.{alike-refl}
-use Rattle.session_limits.proofs.of_line_history.Standings.{starts-leaves}
+use Rattle.line_history.proofs.Standings.{starts-leaves}
 use Rattle.session_limits.specs.line_steps.Right.{Ground, Writes}
 use Rattle.session_limits.proofs.of_line_steps.Wants.{takes-locks}
 use Rattle.line_store.specs.Calls.{MayStopChange}

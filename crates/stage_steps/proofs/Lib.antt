@@ -2,7 +2,6 @@ pub use Rattle.session_limits.proofs as of_session_limits
 pub use Rattle.session_measure.proofs as of_session_measure
 pub use Rattle.session_stands.proofs as of_session_stands
 pub use Rattle.session_limits.proofs.of_session_states as of_session_states
-pub use Rattle.session_limits.proofs.of_store_counts as of_store_counts
 pub mod Seated
 pub mod Resting
 pub mod Goes

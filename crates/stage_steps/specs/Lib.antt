@@ -1,4 +1,3 @@
-pub use Rattle.session_limits.specs.line_steps as line_steps
 pub use Rattle.session_measure.specs as session_measure
 pub use Rattle.session_stands.specs as session_stands
 pub use Rattle.session_limits.specs.session_states as session_states

@@ -22,7 +22,7 @@ use rdb_types::Session;
 use rdo_ast::reply::Reply;
 use rdo_ast::syntax::{Item, Statement};
 use session_jobs::Statements;
-use session_limits::session_states::{End, Phase, Stage};
+use session_limits::{End, Phase, Stage};
 
 /// The script is at its end: the store undoes what the transaction wrote.
 pub fn leave<S: Statements, L: LineStore>(store: &mut L, s: Session, terms: Terms) -> Phase

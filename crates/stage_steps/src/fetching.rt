@@ -12,7 +12,7 @@ use line_view::Need;
 use rdb_types::Session;
 use rdo_ast::syntax::Item;
 use session_jobs::Statements;
-use session_limits::session_states::{Stage, Work};
+use session_limits::{Stage, Work};
 use stepped_jobs::fetch;
 
 /// Reads what the job of a statement lacked; then the job is due again.

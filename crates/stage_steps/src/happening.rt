@@ -7,7 +7,7 @@ use lock_needs::Need;
 use rdb_types::{Dbkey, Keys, Moment, Node};
 use rdo_ast::reply::{Reply, Standing};
 use rdo_ast::syntax::Item;
-use session_limits::session_states::Phase;
+use session_limits::Phase;
 use vms_queues::Mode;
 
 /// An item with its answer, and the Dbkeys that its new rows were given.

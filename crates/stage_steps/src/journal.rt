@@ -24,7 +24,7 @@ use rdb_types::{Level, Node, Session};
 use rdo_ast::reply::Reply;
 use rdo_ast::syntax::{Item, Statement};
 use session_jobs::Statements;
-use session_limits::session_states::{End, Stage};
+use session_limits::{End, Stage};
 use vms_queues::Mode;
 
 /// EX on the after-image journal.

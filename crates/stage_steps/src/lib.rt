@@ -39,7 +39,10 @@ pub use reading::{
 };
 pub use saying::{change, lay};
 pub use serving::serve;
-pub use session_limits::session_states;
+pub use session_limits::{
+    End, Gather, ItemQueue, Laying, Phase, Reader, ReaderStage, ReaderWork, Stage, Work, Writer,
+    lock_of,
+};
 pub use storing::work_on;
 pub use terms::{ReaderTerms, Terms};
 pub use wanting::want;

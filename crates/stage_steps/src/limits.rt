@@ -7,7 +7,7 @@ use crate::items::refused;
 use crate::terms::Terms;
 use rdo_ast::reply::Reply;
 use rdo_ast::syntax::Item;
-use session_limits::session_states::Stage;
+use session_limits::Stage;
 use std::alloc::Global;
 
 /// Refuses a statement at a limit: its transaction goes on.

@@ -23,7 +23,7 @@ use rdb_types::{Copied, Session, Word};
 use rdo_ast::reply::{Reply, Standing};
 use rdo_ast::syntax::Item;
 use session_jobs::{Answer as Worked, Found, Job, Statements};
-use session_limits::session_states::{Phase, Reader, ReaderStage, ReaderWork, Stage, Work, Writer};
+use session_limits::{Phase, Reader, ReaderStage, ReaderWork, Stage, Work, Writer};
 use std::alloc::Global;
 
 /// Answers an item that begins no transaction: it is worked over nothing that is known, and reads nothing.

@@ -4,7 +4,7 @@ ghost use Rattle.std.specs.Prelude.{◌≡◌, ◌+◌, Some, slice_get, MatchOp
 use line_view::Need;
 use rdo_ast::syntax::Item;
 use session_jobs::Needs;
-use session_limits::session_states::{ReaderStage, ReaderWork};
+use session_limits::{ReaderStage, ReaderWork};
 
 /// A reader's statement whose needs are read in turn: those behind the one that is read, of which those before the place are done.
 #[derive(Drop)]

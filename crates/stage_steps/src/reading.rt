@@ -28,7 +28,7 @@ use rdb_types::{Copied, Session, Word};
 use rdo_ast::reply::{Reply, Standing};
 use rdo_ast::syntax::Item;
 use session_jobs::{Found, Job, Needs, Outcome, Statements, TxRecord};
-use session_limits::session_states::{Phase, ReaderStage, ReaderWork};
+use session_limits::{Phase, ReaderStage, ReaderWork};
 use std::alloc::Global;
 use stepped_jobs::fetch;
 

@@ -20,7 +20,7 @@ use rdb_types::Session;
 use rdo_ast::reply::Reply;
 use rdo_ast::syntax::Item;
 use session_jobs::{Statements, TxRecord};
-use session_limits::session_states::{Laying, Phase, Spoken, Stage, speak};
+use session_limits::{Laying, Phase, Spoken, Stage, speak};
 use stepped_jobs::apply;
 
 /// Answers a START_TRANSACTION that isn't done as its record says: its transaction ends.

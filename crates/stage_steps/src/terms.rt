@@ -4,7 +4,7 @@ ghost use Rattle.stage_steps.specs.Turns.{at_stage, reads_at};
 
 use line_view::Known;
 use rdo_ast::reply::Standing;
-use session_limits::session_states::{Phase, Reader, ReaderStage, Stage, Writer};
+use session_limits::{Phase, Reader, ReaderStage, Stage, Writer};
 
 /// What a read-write transaction has beside its stage.
 #[derive(Drop)]

@@ -31,7 +31,7 @@ use rdb_types::{Items, Session};
 use rdo_ast::reply::Reply;
 use rdo_ast::syntax::Item;
 use session_jobs::Statements;
-use session_limits::session_states::{Phase, Stage, behind_got};
+use session_limits::{Phase, Stage, behind_got};
 use std::alloc::Global;
 
 // The statement of a stage.

@@ -25,7 +25,7 @@ use rdb_types::Session;
 use rdo_ast::reply::Reply;
 use rdo_ast::syntax::Item;
 use session_jobs::Statements;
-use session_limits::session_states::{End as EndStage, Phase, Stage, Work};
+use session_limits::{End as EndStage, Phase, Stage, Work};
 
 /// Takes up the next item. A ROLLBACK has the store undo.
 pub fn take_up<S: Statements, L: LineStore>(

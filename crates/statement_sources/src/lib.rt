@@ -4,4 +4,4 @@
 mod schema_sources;
 
 pub use schema_sources::sources;
-pub use stored_schema;
+pub use stored_schema::Schema;

@@ -8,7 +8,7 @@ mod restoring;
 mod rolling;
 mod undoing;
 
-pub use disk_store;
+pub use disk_store::{Held, MemberStage, Recovery};
 pub use dying::die;
 pub use endings::{bury, put_away};
 pub use reading::end_reading;

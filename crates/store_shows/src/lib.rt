@@ -5,5 +5,5 @@ mod laws;
 mod rooms;
 
 pub use laws::{a_crash_leaves_what_may_stand, what_may_stand_lasts};
-pub use member_steps;
+pub use member_steps::{CommitTurn, NUMBERS};
 pub use rooms::{pages_are_taken, rooms_are_shown};

@@ -16,8 +16,7 @@ use ordered_entries::Entries;
 use rdb_types::{Chars, NoMemory};
 use relation_rows::StoredRelation;
 use row_sizes::class_of;
-use row_writes::TargetRelation;
-use row_writes::sound_lines::{version_of, versions_of};
+use row_writes::{TargetRelation, version_of, versions_of};
 use std::alloc::Global;
 use std::marker::Model;
 

@@ -8,11 +8,11 @@ use Rattle.line_versions.specs.Versions.{Followed, snap_of}
 use Rattle.line_versions.specs.Files.{snap_file}
 use Rattle.line_versions.specs.Course.{with_entry}
 use Rattle.stable_lines.specs.Slots.{IsAreaFile}
-use Rattle.disk_versions.specs.line_moves.declared.places.Place.{Place}
-use Rattle.disk_versions.specs.line_moves.Calls.{OnlyWrites}
-use Rattle.disk_versions.specs.line_moves.Changes.{IsPlaceOf}
-use Rattle.disk_versions.proofs.of_line_moves.KeyPlaces.{area_is, is_on}
-use Rattle.disk_versions.proofs.of_line_moves.Putting.{nat_cases}
+use Rattle.line_moves.specs.declared.places.Place.{Place}
+use Rattle.line_moves.specs.Calls.{OnlyWrites}
+use Rattle.line_moves.specs.Changes.{IsPlaceOf}
+use Rattle.line_moves.proofs.KeyPlaces.{area_is, is_on}
+use Rattle.line_moves.proofs.Putting.{nat_cases}
 use Rattle.disk_versions.proofs.Choices.{passed_by}
 use Rattle.disk_versions.proofs.Moves.{kept_in_slot}
 use Rattle.version_writing.specs.Slots.{SlotTable, HoldsFile, Spends}

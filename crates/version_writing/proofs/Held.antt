@@ -14,9 +14,9 @@ use Rattle.line_versions.specs.Course.{Course, pushed, with_entry}
 use Rattle.line_versions.proofs.Slots.{one_each}
 use Rattle.stable_lines.specs.Slots.{line_at}
 use Rattle.stable_lines.specs.Progress.{Progress}
-use Rattle.disk_versions.specs.line_moves.Calls.{OnlyWrites}
-use Rattle.disk_versions.proofs.of_line_moves.OnlyPut.{keeps_lines}
-use Rattle.disk_versions.proofs.of_line_moves.Putting.{nat_cases}
+use Rattle.line_moves.specs.Calls.{OnlyWrites}
+use Rattle.line_moves.proofs.OnlyPut.{keeps_lines}
+use Rattle.line_moves.proofs.Putting.{nat_cases}
 use Rattle.disk_versions.specs.Courses.{course_pushed}
 use Rattle.disk_versions.specs.Versions.{VersionFacts}
 use Rattle.disk_versions.proofs.Moves.{KeepsEntries, versions_move, kept_by_reads, kept_in_slot, lines_in_slot}

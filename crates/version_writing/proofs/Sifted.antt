@@ -6,7 +6,7 @@ use Rattle.std.proofs.lemmas.List.{length-set, get_or-set_same, get_or-set_other
 use Rattle.rdb_types.specs.declared.keys.Tsn.{Tsn}
 use Rattle.snapshot_file.specs.Slots.{Gives, Takes, is_free, left_in}
 use Rattle.snapshot_file.proofs.Counts.{left_given, left_taken}
-use Rattle.disk_versions.proofs.of_line_moves.Putting.{nat_cases}
+use Rattle.line_moves.proofs.Putting.{nat_cases}
 use Rattle.version_writing.specs.Slots.{GivesBack, GivesOne, IsTable, SlotTable, nobody, pusher_at}
 use Rattle.version_writing.specs.Wanting.{AreTaken, Sifts, IsInUse, OnlyGives, StaysOrGiven}
 use Rattle.version_writing.proofs.Counted.{one-more}

@@ -3,8 +3,8 @@ use Rattle.std.proofs.Common.{ℕ, IsTrue, Result, List, ◌⊎◌, inl, inr, �
 use Rattle.rdb_types.specs.declared.file.FileId.{FileId}
 use Rattle.rdb_outside.specs.Disk.{View, Counts, SameContent, Puts, Adds, IsPending, OnlyReads}
 use Rattle.rdb_outside.specs.Moments.{each_slot, goes_on, weaker}
-use Rattle.disk_versions.specs.line_moves.Calls.{OnlyWrites}
-use Rattle.disk_versions.proofs.of_line_moves.Runs.{still_tells}
+use Rattle.line_moves.specs.Calls.{OnlyWrites}
+use Rattle.line_moves.proofs.Runs.{still_tells}
 
 pub writes_told : {T E : Type 0} (old mid new : View) (file : FileId) (slot : ℕ) (result : Result T E) → OnlyReads old mid → Counts mid new result
     → (IsTrue mid.tells → (bytes : List ℕ) × Adds file slot bytes mid new × (SameContent mid.content new.content ⊎ Puts file slot bytes mid.content new.content)) → OnlyWrites file slot old new

@@ -10,15 +10,15 @@ ghost use Rattle.line_versions.specs.Files.{snap_file};
 ghost use Rattle.line_versions.specs.Course.{Course};
 ghost use Rattle.stable_lines.specs.Slots.{IsAreaFile, area_file, line_at as line_named};
 ghost use Rattle.stable_lines.specs.Progress.{Progress};
-ghost use Rattle.disk_versions.specs.line_moves.Calls.{OnlyWrites};
-ghost use Rattle.disk_versions.specs.line_moves.Changes.{IsPlaceOf};
+ghost use Rattle.line_moves.specs.Calls.{OnlyWrites};
+ghost use Rattle.line_moves.specs.Changes.{IsPlaceOf};
 ghost use Rattle.disk_versions.specs.Courses.{course_pushed};
 ghost use Rattle.disk_versions.specs.Versions.{VersionFacts};
 ghost use Rattle.version_writing.specs.Slots.{IsAside, MayPush, Spends};
 ghost use Rattle.version_writing.specs.Tables.{HoldsAll, table_of};
 
 use crate::{SnapshotSlots, push_line};
-use disk_versions::line_moves::Place;
+use line_moves::Place;
 use line_store::Fault;
 use rdb_outside::Disk;
 use rdb_types::{Dbkey, Tsn};

@@ -10,7 +10,7 @@ ghost use Rattle.line_versions.specs.Files.{entries_in, snap_file};
 ghost use Rattle.line_versions.specs.Course.{Course, with_entry};
 ghost use Rattle.stable_lines.specs.Slots.{line_at};
 ghost use Rattle.stable_lines.specs.Progress.{Progress};
-ghost use Rattle.disk_versions.specs.line_moves.Calls.{OnlyWrites};
+ghost use Rattle.line_moves.specs.Calls.{OnlyWrites};
 ghost use Rattle.disk_versions.specs.Courses.{course_given};
 ghost use Rattle.disk_versions.specs.Versions.{VersionFacts};
 ghost use Rattle.version_writing.specs.Slots.{GivesBack, HoldsFile, SlotTable, chains_of};

@@ -10,14 +10,14 @@ ghost use Rattle.line_versions.specs.Files.{snap_file};
 ghost use Rattle.line_versions.specs.Course.{Course};
 ghost use Rattle.stable_lines.specs.Slots.{area_file, line_at as line_named};
 ghost use Rattle.stable_lines.specs.Progress.{Progress};
-ghost use Rattle.disk_versions.specs.line_moves.Calls.{OnlyWrites};
-ghost use Rattle.disk_versions.specs.line_moves.Changes.{IsPlaceOf};
+ghost use Rattle.line_moves.specs.Calls.{OnlyWrites};
+ghost use Rattle.line_moves.specs.Changes.{IsPlaceOf};
 ghost use Rattle.disk_versions.specs.Courses.{course_pushed};
 ghost use Rattle.disk_versions.specs.Versions.{VersionFacts};
 ghost use Rattle.version_writing.specs.Slots.{HasSlot, HoldsFile, IsAside, MayPush, Spends};
 
 use crate::FileSlots;
-use disk_versions::line_moves::{Place, line_at};
+use line_moves::{Place, line_at};
 use line_store::Fault;
 use rdb_outside::Disk;
 use rdb_types::{Dbkey, LineState, Tsn};

@@ -10,10 +10,10 @@ ghost use Rattle.line_versions.specs.Course.{Course, Reading};
 ghost use Rattle.version_reading.specs.Answer.{shown_of};
 ghost use Rattle.stable_lines.specs.Slots.{area_file};
 ghost use Rattle.stable_lines.specs.Progress.{Progress};
-ghost use Rattle.disk_versions.specs.line_moves.Changes.{IsPlaceOf};
+ghost use Rattle.line_moves.specs.Changes.{IsPlaceOf};
 ghost use Rattle.disk_versions.specs.Versions.{VersionFacts};
 
-use disk_versions::line_moves::{Place, line_at};
+use line_moves::{Place, line_at};
 use line_store::Fault;
 use rdb_outside::Disk;
 use rdb_types::{Dbkey, Line};

@@ -12,7 +12,7 @@ ghost use Rattle.workload_runs.specs.Statuses.{is_run_status, is_workload_status
 use crate::accounts::Runs;
 use crate::saying::status_of_fault;
 use crate::whole::WorkloadEnd;
-use faultless_databases::rmu_verify::verify;
+use faultless_databases::verify;
 use line_runs::Halt;
 use rdb_account::Events;
 use rdb_outside::{Disk, Sink};

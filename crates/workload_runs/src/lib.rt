@@ -17,7 +17,7 @@ pub use line_runs::{
     Halt, LineRun, Origin, ReservingStatements, Said, say_in_order, say_in_threads,
 };
 pub use preparing::Part;
-pub use rmu_commands;
+pub use rmu_commands::{dump_command, page_command, verify_command};
 pub use saying::status_of_fault;
 pub use stopping::{seen, status_of_halt};
 pub use whole::{Plan, WorkloadEnd, workload};

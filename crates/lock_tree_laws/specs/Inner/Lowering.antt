@@ -1,7 +1,7 @@
 -- What is true before a lock is brought down to a mode, and after.
 use Rattle.std.specs.Prelude.{◌≡◌, ℕ, Bool, true, false, not, ◌||◌, ◌==◌, ◌⊎◌, List}
 use Rattle.std.specs.List.{list_all}
-use Rattle.lock_needs.specs.rdb_types.declared.node.Node.{Node}
+use Rattle.rdb_types.specs.declared.node.Node.{Node}
 use Rattle.vms_queues.specs.declared.lock_mode.Mode.{Mode}
 use Rattle.vms_queues.specs.Modes.{at_most, intent}
 use Rattle.vms_locks.specs.Table.{Table}

@@ -1,7 +1,7 @@
 -- An owner's locks are released, lower levels first.
 use Rattle.std.specs.Prelude.{◌≡◌, ℕ, Bool, true, false, ◌||◌, Option, Some, None, ◌⊎◌}
-use Rattle.lock_needs.specs.rdb_types.declared.node.Level.{Level}
-use Rattle.lock_needs.specs.rdb_types.declared.node.Node.{Node}
+use Rattle.rdb_types.specs.declared.node.Level.{Level}
+use Rattle.rdb_types.specs.declared.node.Node.{Node}
 use Rattle.vms_queues.specs.declared.lock_mode.Mode.TheVariants.{NL}
 use Rattle.vms_locks.specs.Table.{Table}
 use Rattle.lock_needs.specs.declared.party.OpenWant.{OpenWant}
@@ -9,7 +9,7 @@ use Rattle.lock_needs.specs.Party.{Party}
 use Rattle.lock_needs.specs.Nodes.{is_above, is_on}
 use Rattle.lock_tree_laws.specs.LockTable.{granted_at, sought_at, HasIntents}
 use Rattle.lock_tree_laws.specs.Parties.{is_needed, KeepsOthers}
-use Rattle.lock_needs.specs.rdb_types.contracts.node.LevelPartialEq.TheImpl as level_eq
+use Rattle.rdb_types.specs.contracts.node.LevelPartialEq.TheImpl as level_eq
 
 -- what `==` of levels answers
 abbrev pub same_level : Level → Level → Bool

@@ -1,7 +1,7 @@
 -- How many places are spare in the lock table.
 use Rattle.std.specs.Prelude.{ℕ, ◌+◌, ◌≤◌, Bool, ◌&&◌}
 use Rattle.vms_locks.specs.Table.{Table}
-use Rattle.lock_needs.specs.rdb_types.declared.node.Level.TheVariants.{Line}
+use Rattle.rdb_types.specs.declared.node.Level.TheVariants.{Line}
 use Rattle.lock_needs.specs.declared.party.OpenWant.{OpenWant}
 use Rattle.lock_needs.specs.Nodes.{same_node, is_above}
 

@@ -13,7 +13,7 @@ ghost use Rattle.session_states.specs.States.{session, dead_session, gone_sessio
 ghost use Rattle.session_states.specs.Shared.{Shared, with_shelf, with_death, with_recovery, RestsWith};
 ghost use Rattle.session_states.specs.Steps.{Fall};
 
-use line_steps::session_jobs::Statements;
+use line_steps::Statements;
 
 /// A session dies where it stands, of a cause of which it may, and keeps its locks. The store undoes it, or tells that its commit stands;
 /// then it is recovered, and its locks are released.

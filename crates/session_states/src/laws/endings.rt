@@ -23,7 +23,7 @@ ghost use Rattle.session_states.specs.States.{writer, session};
 ghost use Rattle.session_states.specs.Shared.{Shared, with_shelf, with_both, RestsWith};
 ghost use Rattle.session_states.specs.Steps.{Step};
 
-use line_steps::session_jobs::Statements;
+use line_steps::Statements;
 
 /// A read-write transaction begins as the store is told to begin one. What the store does for a session in a step or more is seen by no
 /// account before it is done, also where a step of it fails; then the transaction is open, or what it left is put away.

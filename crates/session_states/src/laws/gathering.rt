@@ -24,7 +24,7 @@ ghost use Rattle.session_states.specs.Shared.{Shared, with_shelf};
 ghost use Rattle.session_states.specs.States.{session, writer};
 ghost use Rattle.session_states.specs.Steps.{Step};
 
-use line_steps::session_jobs::Statements;
+use line_steps::Statements;
 
 /// All that a job named is locked and read in turn before the job is due again, so that it isn't worked again for each need. The rest may
 /// be let go at any need: so it is at the last one. For a room a line is named, locked and read, and its page is taken; the room itself is

@@ -15,7 +15,7 @@ ghost use Rattle.session_states.specs.States.{session};
 ghost use Rattle.session_states.specs.Shared.{Shared};
 ghost use Rattle.session_states.specs.Steps.{Step};
 
-use line_steps::session_jobs::Statements;
+use line_steps::Statements;
 
 /// Outside a transaction an item that begins none is worked over nothing that is known, and said. Where no memory is found each item may be
 /// refused there, also one that would begin a transaction.

@@ -22,7 +22,7 @@ ghost use Rattle.session_states.specs.States.{writer, session};
 ghost use Rattle.session_states.specs.Shared.{Shared, with_both, RestsWith};
 ghost use Rattle.session_states.specs.Steps.{Step};
 
-use line_steps::session_jobs::Statements;
+use line_steps::Statements;
 
 /// Room and memory of a COMMIT are taken in the step in which it first asks for the journal, so that the account knows for whom room is
 /// taken. They are given back where no memory is found for its want: as it opens, or later.

@@ -26,7 +26,7 @@ ghost use Rattle.session_states.specs.States.{reader, reader_item, session};
 ghost use Rattle.session_states.specs.Shared.{Shared, with_shelf};
 ghost use Rattle.session_states.specs.Steps.{Step};
 
-use line_steps::session_jobs::Statements;
+use line_steps::Statements;
 
 /// A read-only transaction begins as the store is told so, and reads the lines that are committed then, whatever others commit. Its
 /// statements are worked, all that a job named is read in turn before it is due again, and they are said at once. A need may be passed over,

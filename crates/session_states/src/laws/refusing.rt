@@ -27,7 +27,7 @@ ghost use Rattle.session_states.specs.States.{item_of, is_at_rest, writer, sessi
 ghost use Rattle.session_states.specs.Shared.{Shared, with_locks, with_both, RestsWith};
 ghost use Rattle.session_states.specs.Steps.{Step};
 
-use line_steps::session_jobs::Statements;
+use line_steps::Statements;
 
 /// Where the tree refuses the lock that a statement's stage wants, its askings are followed by the statement's refusal, which has its
 /// cause, and the transaction goes on; or by want of memory for that reply. So it is once something was said in it. A COMMIT isn't refused by

@@ -26,7 +26,7 @@ ghost use Rattle.session_states.specs.Shared.{Shared};
 ghost use Rattle.session_states.specs.States.{session, writer};
 ghost use Rattle.session_states.specs.Steps.{Finds, Step};
 
-use line_steps::session_jobs::Statements;
+use line_steps::Statements;
 
 /// A START_TRANSACTION whose job came back with a record may want locks that its reservations ask for, over all that agrees with what the
 /// session knows, in any order. They are wanted, got or refused as the lock of any stage; once the stage wants none, all of them are got,

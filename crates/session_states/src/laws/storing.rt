@@ -20,7 +20,7 @@ ghost use Rattle.session_states.specs.Shared.{Shared, with_shelf};
 ghost use Rattle.session_states.specs.Fits.{Follows};
 ghost use Rattle.session_states.specs.Steps.{Step};
 
-use line_steps::session_jobs::Statements;
+use line_steps::Statements;
 
 /// Once the lines of all its writes are locked a record is laid, and what the session knows follows the writes. It is said when the store
 /// has laid it, and at once where it writes nothing. A START_TRANSACTION that isn't done is said otherwise.

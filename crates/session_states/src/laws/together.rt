@@ -21,7 +21,7 @@ ghost use Rattle.session_states.specs.Shared.{Shared};
 ghost use Rattle.session_states.specs.Steps.{AreAt, Finds, Step, Fall};
 ghost use Rattle.session_states.specs.Kept.{AreKept, IsFresh, IsOpened};
 
-use line_steps::session_jobs::Statements;
+use line_steps::Statements;
 
 /// What is always true of all sessions is true at the opening. It gives what each of them finds where nobody is dead, and a step of one of them keeps it. Steps of
 /// one session in turn, in which nobody dies, are one step. Deaths and recoveries keep it too, whoever is dead. Who is ready to commit is

@@ -20,7 +20,7 @@ ghost use Rattle.session_states.specs.States.{writer, session};
 ghost use Rattle.session_states.specs.Shared.{Shared, with_locks};
 ghost use Rattle.session_states.specs.Steps.{Step};
 
-use line_steps::session_jobs::Statements;
+use line_steps::Statements;
 
 /// A call on the tree for the lock that a stage wants is its askings in the account. While the want is open, since a notice is due or it
 /// sleeps, the stage stays; where the lock is got, that is said too, and the stage comes to the one behind it. A notice that is served is

@@ -28,7 +28,7 @@ ghost use Rattle.session_states.specs.Shared.{Shared, with_shelf};
 ghost use Rattle.session_states.specs.Fits.{Learns};
 ghost use Rattle.session_states.specs.Steps.{Finds, Step};
 
-use line_steps::session_jobs::Statements;
+use line_steps::Statements;
 
 /// The next item is taken up; its job is handed out and comes back with a record, or with what it lacks. No job of a session calls a
 /// line bad.

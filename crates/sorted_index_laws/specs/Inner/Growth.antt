@@ -2,11 +2,11 @@
 use Rattle.std.specs.Prelude.{◌≡◌, ◌≤◌, ◌<◌, ◌+◌, ◌⊎◌, ℕ, zero, suc, Bool, true, false, ◌&&◌, List, [], ◌∷◌, ◌++◌, drop, map, Some, None, option_map, Result, Ok, Err, if◌then◌else◌}
 use Rattle.std.specs.Ordering.{is_lt, is_le, is_eq}
 use Rattle.std.specs.List.{All, AllByRecursion, IsDistinct, flat_map, list_any}
-use Rattle.index_node.specs.slot_fields.Fields.{size}
+use Rattle.slot_fields.specs.Fields.{size}
 use Rattle.index_node.specs.record_format.Values.{values_fields, IsValue}
-use Rattle.index_node.specs.rdb_types.declared.keys.Dbkey.{Dbkey}
-use Rattle.index_node.specs.rdb_types.declared.values.Value.{Value}
-use Rattle.index_node.specs.rdb_types.Order.{dbkey_order}
+use Rattle.rdb_types.specs.declared.keys.Dbkey.{Dbkey}
+use Rattle.rdb_types.specs.declared.values.Value.{Value}
+use Rattle.rdb_types.specs.Order.{dbkey_order}
 use Rattle.index_node.specs.declared.entry.NodeEntry.{NodeEntry}
 use Rattle.index_node.specs.declared.node.IndexNode.{IndexNode}
 use Rattle.index_node.specs.Order.{entry_order}

@@ -1,8 +1,8 @@
 -- What one step of a search tells.
 use Rattle.std.specs.Prelude.{◌≡◌, ◌≢◌, ℕ, List, ◌++◌, Option, Some, None, option_map, Result, Ok, Err, ◌≤◌, suc, [], ◌∷◌, if◌then◌else◌}
-use Rattle.index_node.specs.rdb_types.declared.keys.Dbkey.{Dbkey}
+use Rattle.rdb_types.specs.declared.keys.Dbkey.{Dbkey}
 use Rattle.index_node.specs.declared.node.IndexNode.{IndexNode}
-use Rattle.index_node.specs.slot_fields.Fields.{size}
+use Rattle.slot_fields.specs.Fields.{size}
 use Rattle.std.specs.Ordering.{is_le}
 use Rattle.index_node.specs.declared.entry.NodeEntry.{NodeEntry}
 use Rattle.index_node.specs.Order.{entry_order}

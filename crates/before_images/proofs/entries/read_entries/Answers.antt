@@ -4,7 +4,7 @@ use Rattle.rdb_outside.specs.Disk.{Image, zeros}
 use Rattle.rdb_outside.specs.Runs.{then_reads}
 use Rattle.journal_reading.specs.Journal.{EndsBy}
 use Rattle.stable_lines.specs.Slots.{ruj_file}
-use Rattle.line_opening.proofs.of_line_moves.Runs.{reads_once, still_tells}
+use Rattle.line_moves.proofs.Runs.{reads_once, still_tells}
 use Rattle.line_opening.proofs.Counted.{if_ok}
 use Rattle.line_opening.proofs.Passed.{image_same}
 use Rattle.before_images.specs.Before.{HoldsBefore}

@@ -4,7 +4,7 @@ use Rattle.rdb_types.specs.declared.keys.Line.{Line}
 use Rattle.ruj_journal.specs.Entry.{IsEntry}
 use Rattle.rdb_outside.specs.Runs.{no_calls, one_call}
 use Rattle.stable_lines.specs.Slots.{ruj_file}
-use Rattle.line_opening.proofs.of_line_moves.Runs.{still_tells}
+use Rattle.line_moves.proofs.Runs.{still_tells}
 use Rattle.before_images.proofs.Reading.{HeldTo, none_held, entry_more, entries_end, entries_end_in_zeros}
 use Rattle.before_images.proofs.entries.read_to.Goals as goal
 

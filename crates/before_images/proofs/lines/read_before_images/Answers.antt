@@ -1,7 +1,7 @@
 use Rattle.std.proofs.Common.{rules, ◌+◌, ◌≤◌, List, subst, sym, refl, get_or, arith}
 use Rattle.rdb_outside.specs.Disk.{Image}
 use Rattle.rdb_outside.specs.Runs.{then_reads}
-use Rattle.line_opening.proofs.of_line_moves.Runs.{still_tells}
+use Rattle.line_moves.proofs.Runs.{still_tells}
 use Rattle.line_opening.proofs.Passed.{image_same}
 use Rattle.before_images.specs.declared.lines.OpenTransaction.{OpenTransaction}
 use Rattle.before_images.specs.Open.{HoldsMore}

@@ -2,7 +2,7 @@ use Rattle.std.proofs.Common.{◌≡◌, sym, subst, map}
 use Rattle.rdb_outside.specs.Disk.{Image}
 use Rattle.rdb_outside.specs.Runs.{then_reads}
 use Rattle.stable_lines.specs.Journal.{IsJournalOf}
-use Rattle.line_opening.proofs.of_line_moves.Runs.{still_tells}
+use Rattle.line_moves.proofs.Runs.{still_tells}
 use Rattle.line_opening.specs.Headers.{open_in}
 use Rattle.line_opening.proofs.Passed.{image_same}
 use Rattle.before_images.proofs.Numbers.{are_open}

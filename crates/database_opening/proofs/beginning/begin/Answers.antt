@@ -3,7 +3,7 @@ use Rattle.std.proofs.Common.{Result, List, ℕ, sym, subst}
 use Rattle.rdb_outside.specs.Disk.{Image}
 use Rattle.rdb_outside.specs.Runs.{then_reads}
 use Rattle.root_file.specs.Root.{IsRoot}
-use Rattle.line_opening.specs.new_database.Maker.{root_file}
+use Rattle.new_database.specs.Maker.{root_file}
 use Rattle.line_opening.specs.stable_lines.Kept.{Kept}
 use Rattle.line_opening.proofs.of_line_moves.Runs.{still_tells}
 use Rattle.line_opening.proofs.Counted.{if_ok}

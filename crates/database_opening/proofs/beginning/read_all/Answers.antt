@@ -1,7 +1,7 @@
 use Rattle.std.proofs.Common.{rules, ◌≡◌, ◌∙◌, List, ℕ, sym, subst}
 use Rattle.rdb_outside.specs.Disk.{Image}
 use Rattle.rdb_outside.specs.Runs.{then_reads}
-use Rattle.line_opening.specs.new_database.Maker.{root_file}
+use Rattle.new_database.specs.Maker.{root_file}
 use Rattle.line_opening.specs.stable_lines.Slots.{ruj_file}
 use Rattle.line_opening.specs.stable_lines.Journal.{IsJournalOf}
 use Rattle.line_opening.specs.stable_lines.Kept.{IsRujHeader, Kept}

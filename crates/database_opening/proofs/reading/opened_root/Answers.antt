@@ -1,6 +1,6 @@
 use Rattle.std.proofs.Common.{List, ℕ, ◌≡◌, ◌∙◌, sym, subst}
 use Rattle.line_opening.proofs.of_line_moves.Runs.{reads_once}
-use Rattle.line_opening.specs.new_database.Maker.{root_file}
+use Rattle.new_database.specs.Maker.{root_file}
 use Rattle.database_opening.specs.Reading.{IsOpenedRoot}
 use Rattle.database_opening.proofs.reading.opened_root.Goals as goal
 

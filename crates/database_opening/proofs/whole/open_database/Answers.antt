@@ -1,7 +1,7 @@
 use Rattle.std.proofs.Common.{rules, ◌≡◌, ◌∙◌, sym, subst, arith}
 use Rattle.root_file.specs.declared.Root.{Root}
 use Rattle.root_file.specs.Root.{IsRoot}
-use Rattle.line_opening.specs.new_database.Maker.{root_file}
+use Rattle.new_database.specs.Maker.{root_file}
 use Rattle.line_opening.proofs.of_line_moves.Runs.{still_tells}
 use Rattle.database_opening.specs.Stages.{OpeningFacts}
 use Rattle.database_opening.specs.declared.stages.OpeningStage.{OpeningStage}

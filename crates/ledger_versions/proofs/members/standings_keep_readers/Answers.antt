@@ -1,5 +1,5 @@
 use Rattle.std.proofs.Common.{◌≡◌, ◌∙◌, length, ap, subst}
-use Rattle.disk_seats.specs.line_moves.Lines.{ArePut}
+use Rattle.line_moves.specs.Lines.{ArePut}
 use Rattle.disk_seats.specs.line_seat.declared.commit.CommitStage.{CommitStage}
 use Rattle.disk_seats.specs.line_seat.Stages.{CommitFacts}
 use Rattle.disk_seats.specs.Ledgers.{broken, undoing, gained, Commit, again, flies, commit_at, set_standing, gone_on, held_up, given_up, marked_at}

@@ -1,5 +1,5 @@
 use Rattle.std.proofs.Common.{◌∙◌, ap, slice_set}
-use Rattle.answered_steps.specs.session_states.declared.stage.Member.{Member}
+use Rattle.session_states.specs.declared.stage.Member.{Member}
 use Rattle.lent_members.proofs.Places.{set-same}
 use Rattle.lent_members.proofs.lending.lend_at.Goals as goal
 

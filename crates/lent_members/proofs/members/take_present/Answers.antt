@@ -1,5 +1,5 @@
 use Rattle.std.proofs.Common.{◌∙◌, List, Some, ap, slice_set, sym}
-use Rattle.answered_steps.specs.session_states.declared.stage.Member.{Member}
+use Rattle.session_states.specs.declared.stage.Member.{Member}
 use Rattle.lent_members.proofs.Places.{set-same}
 use Rattle.lent_members.proofs.members.take_present.Goals as goal
 

@@ -1,6 +1,6 @@
 use Rattle.std.proofs.Common.{◌≡◌, length}
 use Rattle.line_view.specs.Knowledge.{Lines, IsInOrder, lines_in}
-use Rattle.sound_lines.specs.catalog.Reading.{catalog_area}
+use Rattle.catalog.specs.Reading.{catalog_area}
 use Rattle.line_faults.proofs.Taken.{HasTaken}
 use Rattle.line_faults.proofs.checked.check_catalog.Given as goal
 

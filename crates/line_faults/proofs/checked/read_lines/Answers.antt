@@ -1,7 +1,7 @@
 use Rattle.std.proofs.Common.{◌≡◌, subst}
 use Rattle.rdb_types.specs.declared.keys.Dbkey.{Dbkey}
 use Rattle.line_view.specs.Held.{Held, knows}
-use Rattle.sound_lines.specs.catalog.Reading.{IsBad, IsNext, StopsCatalog}
+use Rattle.catalog.specs.Reading.{IsBad, IsNext, StopsCatalog}
 use Rattle.line_faults.proofs.Taken.{bad_found, bad_line, nothing_next}
 use Rattle.line_faults.proofs.checked.read_lines.Goals as goal
 

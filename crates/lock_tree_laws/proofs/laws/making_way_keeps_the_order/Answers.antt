@@ -1,5 +1,5 @@
 use Rattle.std.proofs.Common.{refl, sym, subst, List, []}
-use Rattle.lock_needs.specs.rdb_types.declared.node.Node.{Node}
+use Rattle.rdb_types.specs.declared.node.Node.{Node}
 use Rattle.vms_queues.specs.Queues.{Queues}
 use Rattle.lock_tree_laws.specs.Order.{IsInOrder}
 use Rattle.lock_tree_laws.proofs.StepsInOrder.{empty-in_order, served-in_order, ended-in_order}

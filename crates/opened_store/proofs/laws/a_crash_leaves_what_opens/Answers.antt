@@ -8,8 +8,8 @@ use Rattle.stable_lines.proofs.Stands.{stands}
 use Rattle.disk_seats.specs.Ledgers.{Commit, progress_of}
 use Rattle.member_steps.specs.Standing.{HasLines}
 use Rattle.member_steps.proofs.Left.{by_case}
-use Rattle.disk_store.proofs.of_store_shows.Standing.{may_stand}
-use Rattle.disk_store.specs.store_shows.Shows.{OpensTo}
+use Rattle.store_shows.proofs.Standing.{may_stand}
+use Rattle.store_shows.specs.Shows.{OpensTo}
 use Rattle.opened_store.proofs.laws.a_crash_leaves_what_opens.Goals as goal
 
 pub returns : goal.returns

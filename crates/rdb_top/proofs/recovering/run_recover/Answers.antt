@@ -2,7 +2,7 @@ use Rattle.std.proofs.Common.{◌≡◌, inl, inr, ℕ, true, List, refl, sym, s
 use Rattle.rdb_outside.specs.Runs.{no_calls}
 use Rattle.rdb_outside.specs.Moments.{started, each_slot}
 use Rattle.database_opening.proofs.Others.{file_unused}
-use Rattle.rmu_keeping.specs.rmu_recover.Recovering.{as_before}
+use Rattle.rmu_recover.specs.Recovering.{as_before}
 use Rattle.command_words.specs.Copies.{copies_in}
 use Rattle.rmu_keeping.specs.Rolling.{MayBeRecovered, LacksGroup, HasUnfit, Rolls, RollsWithin, TellsGroups}
 use Rattle.rdb_top.proofs.recovering.run_recover.Goals as goal

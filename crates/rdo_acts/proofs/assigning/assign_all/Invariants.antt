@@ -4,7 +4,7 @@ use Rattle.rdb_meaning.specs.declared.tables.Tables.{Tables}
 use Rattle.rdb_meaning.specs.Evaluation.{Scope}
 use Rattle.rdb_meaning.specs.Execution.{assign}
 use Rattle.line_view.specs.Knowledge.{Lines}
-use Rattle.served_selections.specs.row_writes.Rows.{IsSoundView}
+use Rattle.row_writes.specs.Rows.{IsSoundView}
 use Rattle.rdo_values.specs.Rows.{row_of, variables_of}
 use Rattle.rdo_bind.specs.Assigning.{written_assign, IsBoundAssign}
 use Rattle.rdo_acts.proofs.assigning.assign_all.Given as goal

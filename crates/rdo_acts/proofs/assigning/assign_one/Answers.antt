@@ -10,7 +10,7 @@ use Rattle.rdb_meaning.specs.Checks.{expression_uses, assignments_uses}
 use Rattle.rdo_bind.specs.Assigning.{written_assign}
 use Rattle.statement_view.specs.Areas.{IsNeedOf}
 use Rattle.used_areas.specs.Areas.{areas_read}
-use Rattle.served_selections.proofs.of_row_writes.AreaLists.{StopsAt}
+use Rattle.row_writes.proofs.AreaLists.{StopsAt}
 use Rattle.rdo_acts.proofs.AreasRead.{value_reads, misfit_at}
 use Rattle.rdo_acts.proofs.UsesWithin.{before, reads_within}
 use Rattle.rdo_acts.specs.Stops.{stop_of_select}

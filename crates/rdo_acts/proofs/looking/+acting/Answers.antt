@@ -3,8 +3,8 @@ use Rattle.rdo_ast.specs.declared.syntax.Range.{Range}
 use Rattle.rdo_bind.specs.Acting.{Act, act_of, acts_of, IsBoundAct}
 use Rattle.rdo_values.specs.Views.{ranging_of}
 use Rattle.rdo_values.specs.Places.{ranges_in, IsBoundRanging}
-use Rattle.served_selections.specs.rdo_select.declared.crossing.Found.{Found}
-use Rattle.served_selections.specs.rdo_select.Stops.{HaveValues}
+use Rattle.rdo_select.specs.declared.crossing.Found.{Found}
+use Rattle.rdo_select.specs.Stops.{HaveValues}
 use Rattle.served_selections.specs.Ranges.{chosen_in_ranging}
 use Rattle.index_ahead.specs.Added.{AddsOnly}
 use Rattle.rdo_acts.specs.Looking.{IsReadBy}

@@ -5,7 +5,7 @@ use Rattle.line_view.specs.Held.{knows}
 use Rattle.rdo_bind.specs.Acting.{act_of, acts_of, AreBoundActs}
 use Rattle.rdo_values.specs.Views.{ranging_of}
 use Rattle.rdo_values.specs.Places.{ranges_in}
-use Rattle.served_selections.specs.rdo_select.Sources.{IsShown}
+use Rattle.rdo_select.specs.Sources.{IsShown}
 use Rattle.rdo_values.specs.Selections.{IsBoundSelection}
 use Rattle.index_ahead.specs.Added.{AddsOnly}
 use Rattle.rdo_acts.specs.Looking.{IsReadBy, AreValuesOf}

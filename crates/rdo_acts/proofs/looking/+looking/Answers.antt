@@ -3,8 +3,8 @@ use Rattle.std.specs.Option.{option_copied}
 use Rattle.rdo_values.specs.declared.bound.BoundRange.{BoundRange}
 use Rattle.rdo_values.specs.Places.{AreRanges}
 use Rattle.rdo_values.specs.Views.{testing_of, conjunction_with}
-use Rattle.served_selections.specs.rdo_select.Sources.{source_at}
-use Rattle.served_selections.proofs.of_rdo_select.Keeping.{first_source}
+use Rattle.rdo_select.specs.Sources.{source_at}
+use Rattle.rdo_select.proofs.Keeping.{first_source}
 use Rattle.served_selections.specs.Ranges.{chosen_from}
 use Rattle.served_selections.specs.Served.{access_behind}
 use Rattle.index_rows.specs.Indexed.{positions_in}

@@ -4,7 +4,7 @@ use Rattle.rdb_meaning.specs.declared.tables.Tables.{Tables}
 use Rattle.line_view.specs.Held.{knows}
 use Rattle.rdo_values.specs.Places.{AreRanges}
 use Rattle.rdo_values.specs.Views.{testing_of, conjunction_with}
-use Rattle.served_selections.specs.rdo_select.Sources.{IsShown}
+use Rattle.rdo_select.specs.Sources.{IsShown}
 use Rattle.served_selections.specs.Ranges.{chosen_from}
 use Rattle.index_ahead.specs.Added.{AddsOnly}
 use Rattle.rdo_acts.specs.Looking.{IsReadBy, StandBehind}

@@ -4,7 +4,7 @@ use Rattle.rdo_ast.specs.declared.syntax.Range.{Range}
 use Rattle.rdb_meaning.specs.declared.tables.Tables.{Tables}
 use Rattle.line_view.specs.Held.{knows}
 use Rattle.rdo_bind.specs.Acting.{IsBoundItem}
-use Rattle.served_selections.specs.rdo_select.Sources.{IsShown}
+use Rattle.rdo_select.specs.Sources.{IsShown}
 use Rattle.index_ahead.specs.Added.{AddsOnly}
 use Rattle.rdo_acts.specs.Looking.{IsReadBy, AreValuesOf}
 use Rattle.rdo_acts.specs.Selections.{chosen_in_items}

@@ -3,8 +3,8 @@ use Rattle.rdo_values.specs.declared.bound.BoundExpression as tree
 use Rattle.rdo_values.specs.declared.bound.BoundInner.{out-BoundInner}
 use Rattle.rdo_values.specs.Tree.{Ranging, Conjunction, without_condition, with_condition}
 use Rattle.rdo_values.specs.Views.{condition_of}
-use Rattle.served_selections.specs.rdo_select.Chosen.{with_behind}
-use Rattle.served_selections.proofs.of_rdo_select.Matchings.{HasParts, parts_are, parts_bound}
+use Rattle.rdo_select.specs.Chosen.{with_behind}
+use Rattle.rdo_select.proofs.Matchings.{HasParts, parts_are, parts_bound}
 use Rattle.served_selections.specs.Ranges.{chosen_from, chosen_in_ranging}
 use Rattle.index_ahead.specs.Added.{AddsOnly}
 use Rattle.rdo_acts.specs.Looking.{IsReadBy}

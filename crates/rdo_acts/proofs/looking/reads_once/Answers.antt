@@ -1,5 +1,5 @@
 use Rattle.std.proofs.Common.{sym, ◌∙◌}
-use Rattle.served_selections.proofs.of_rdo_select.ReadOnce.{once_is}
+use Rattle.rdo_select.proofs.ReadOnce.{once_is}
 use Rattle.rdo_acts.proofs.looking.reads_once.Goals as goal
 
 pub returns-else-is_empty : goal.returns-else-is_empty

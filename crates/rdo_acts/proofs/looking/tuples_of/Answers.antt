@@ -1,6 +1,6 @@
 use Rattle.std.proofs.Common.{inl, inr, [], map, refl, sym, arith}
 use Rattle.std.proofs.lemmas.List.{length-map}
-use Rattle.served_selections.specs.rdo_select.declared.crossing.Found.{Found}
+use Rattle.rdo_select.specs.declared.crossing.Found.{Found}
 use Rattle.rdo_acts.proofs.looking.tuples_of.Goals as goal
 
 pub returns-in-Ok : goal.returns-in-Ok

@@ -15,7 +15,7 @@ use Rattle.rdo_acts.proofs.Viewing.{sound_view}
 use Rattle.rdo_acts.proofs.LinePrinted.{prints_line, refuses_line}
 use Rattle.rdb_meaning.specs.Checks.{shown_uses}
 use Rattle.used_areas.specs.Areas.{areas_changed}
-use Rattle.served_selections.proofs.of_row_writes.AreaLists.{nothing_written}
+use Rattle.row_writes.proofs.AreaLists.{nothing_written}
 use Rattle.rdo_acts.proofs.AreasRead.{reading_keeps, at_start}
 use Rattle.rdo_acts.proofs.Lacking.{one_schema_of}
 use Rattle.rdo_acts.proofs.printing.print.Goals as goal

@@ -7,7 +7,7 @@ use Rattle.rdo_bind.specs.declared.action.BoundAction as actions
 use Rattle.rdo_bind.specs.Acting.{act_of, acts_of, named_act, named_acts, for_each, print, store, modify, erase}
 use Rattle.std.proofs.lemmas.List.{length-map}
 use Rattle.rdo_values.specs.declared.bound.BoundRange.{BoundRange}
-use Rattle.served_selections.specs.rdo_select.Crossed.{ranges_of}
+use Rattle.rdo_select.specs.Crossed.{ranges_of}
 use Rattle.rdo_acts.specs.Scopes.{scope_of}
 use Rattle.rdo_acts.specs.Ends.{Ends, Runs, ActStop}
 use Rattle.rdo_acts.proofs.Writing.{acts_at, reads_at}
@@ -20,7 +20,7 @@ use Rattle.rdb_meaning.specs.Checks.{acts_uses}
 use Rattle.statement_view.specs.Over.{Over}
 use Rattle.statement_view.specs.Areas.{IsNeedOf, WritesOf}
 use Rattle.used_areas.specs.Areas.{areas_read, areas_changed}
-use Rattle.served_selections.proofs.of_row_writes.AreaLists.{nothing_written, writes_then}
+use Rattle.row_writes.proofs.AreaLists.{nothing_written, writes_then}
 use Rattle.rdo_bind.proofs.Lists.{variables_behind}
 use Rattle.rdo_acts.specs.declared.stop.Refusal.{Refusal}
 use Rattle.rdo_acts.specs.Areas.{scope_uses, action_uses, body_uses, KeepsFor, RunsFor}
@@ -28,19 +28,19 @@ use Rattle.rdo_acts.proofs.AreasRead.{view_at, reading_keeps, at_start}
 use Rattle.rdo_acts.proofs.UsesWithin.{before, act_within, keeps_within}
 use Rattle.rdo_acts.proofs.ScopeUses.{body_same}
 use Rattle.line_view.specs.Stops.{of_view}
-use Rattle.served_selections.specs.row_writes.Rows.{IsSoundView}
-use Rattle.served_selections.proofs.of_row_writes.AreaLists.{StopsAt}
+use Rattle.row_writes.specs.Rows.{IsSoundView}
+use Rattle.row_writes.proofs.AreaLists.{StopsAt}
 use Rattle.rdo_acts.specs.Selections.{chosen_in_act, chosen_in_acts, IsReadAmong, RunsAmong}
 use Rattle.rdo_acts.proofs.Lacking.{action_among, tuple_values, form_among, none_writes, for_stops_among, for_runs_among}
 use Rattle.std.proofs.Common.{◌⊎◌, inl, inr}
-use Rattle.served_selections.proofs.of_row_writes.AreaLists.{stops_at}
+use Rattle.row_writes.proofs.AreaLists.{stops_at}
 use Rattle.line_view.specs.declared.need.Need.{Need}
 use Rattle.rdo_acts.specs.Wanted.{IsOneOf, ActWants, ActsWant, Then, IsRowOf, RunsWanting}
 use Rattle.rdo_acts.proofs.Bodies.{tuple_now, bound_is}
 use Rattle.rdo_acts.proofs.Turns.{one_now}
 use Rattle.rdo_acts.proofs.Wanting.{then_so, part_wants, form_wants, print_wanting, for_stops_wanting, for_runs_wanting, bound_row, tuple_among}
 use Rattle.sorted_index_laws.specs.Nodes.{AnyByRecursion}
-use Rattle.served_selections.specs.rdo_select.declared.crossing.Found.{Found}
+use Rattle.rdo_select.specs.declared.crossing.Found.{Found}
 use Rattle.rdo_acts.proofs.running.+run.Goals as goal
 
 -- ---- the actions of a body that doesn't write

@@ -6,8 +6,8 @@ use Rattle.statement_view.specs.Areas.{WritesOf}
 use Rattle.used_areas.specs.Areas.{areas_changed}
 use Rattle.rdo_values.specs.Rows.{row_of}
 use Rattle.rdo_bind.specs.Acting.{act_of, acts_of, named_acts}
-use Rattle.served_selections.specs.rdo_select.Crossed.{ranges_of}
-use Rattle.served_selections.specs.rdo_select.Stops.{HaveValues}
+use Rattle.rdo_select.specs.Crossed.{ranges_of}
+use Rattle.rdo_select.specs.Stops.{HaveValues}
 use Rattle.rdo_acts.specs.Scopes.{scope_of}
 use Rattle.rdo_acts.specs.Ends.{HoldsIn}
 use Rattle.rdo_acts.specs.Areas.{body_uses}

@@ -7,7 +7,7 @@ use Rattle.std.proofs.Common.{◌∷◌, []}
 use Rattle.rdo_acts.specs.Scopes.{scope_of}
 use Rattle.rdo_acts.specs.Areas.{scope_uses}
 use Rattle.rdo_acts.proofs.UsesWithin.{variable_within, reads_within}
-use Rattle.served_selections.proofs.of_row_writes.AreaLists.{stops_at}
+use Rattle.row_writes.proofs.AreaLists.{stops_at}
 use Rattle.rdo_acts.specs.Wanted.{IsRowOf}
 use Rattle.rdo_acts.proofs.Wanting.{row_among}
 use Rattle.rdo_acts.proofs.scope.values_now.Goals as goal

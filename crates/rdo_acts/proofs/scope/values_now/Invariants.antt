@@ -1,7 +1,7 @@
 use Rattle.std.proofs.Common.{◌≡◌, take}
 use Rattle.rdb_meaning.specs.declared.tables.Tables.{Tables}
 use Rattle.line_view.specs.Knowledge.{Lines}
-use Rattle.served_selections.specs.row_writes.Rows.{IsSoundView}
+use Rattle.row_writes.specs.Rows.{IsSoundView}
 use Rattle.rdo_values.specs.Rows.{row_of}
 use Rattle.rdo_acts.specs.Scopes.{scope_of}
 use Rattle.rdo_acts.proofs.scope.values_now.Given as goal

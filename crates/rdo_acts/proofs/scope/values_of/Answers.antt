@@ -2,7 +2,7 @@ use Rattle.std.proofs.Common.{◌≡◌, Some, sym, ap, ◌∙◌, false}
 use Rattle.std.specs.Option.{option_copied}
 use Rattle.std.proofs.lemmas.Result.{err_from_is_err_and}
 use Rattle.statement_view.specs.Over.{laid_over}
-use Rattle.served_selections.specs.rdo_select.Sources.{source_at}
+use Rattle.rdo_select.specs.Sources.{source_at}
 use Rattle.rdo_acts.proofs.VariableRow.{has_source, table, has_rows, some_values, no_values, table_named}
 use Rattle.rdo_acts.proofs.AreasRead.{variable_reads}
 use Rattle.rdo_acts.proofs.Wanting.{row_lacked}

@@ -1,7 +1,7 @@
 use Rattle.std.proofs.Common.{Ok, Err, refl, subst}
 use Rattle.std.proofs.lemmas.Result.{err_from_is_err_and}
 use Rattle.rdb_meaning.specs.Contents.{Row, relation_named}
-use Rattle.served_selections.specs.row_writes.Rows.{StoresRow}
+use Rattle.row_writes.specs.Rows.{StoresRow}
 use Rattle.rdo_acts.specs.declared.work.Work.{Work}
 use Rattle.rdo_acts.proofs.Viewing.{relation_there}
 use Rattle.rdo_acts.proofs.RowStored.{store_unmade, store_stopped, store_done}

@@ -1,18 +1,18 @@
 use Rattle.std.proofs.Common.{◌≡◌, ◌⊎◌, inl, inr, None, Ok, Err, refl, subst}
 use Rattle.rdb_meaning.specs.Contents.{Row, relation_named}
-use Rattle.served_selections.specs.row_writes.Rows.{ErasesRow}
+use Rattle.row_writes.specs.Rows.{ErasesRow}
 use Rattle.rdo_values.specs.Places.{IsRangeOf}
 use Rattle.rdo_acts.specs.declared.scope.BoundRow.{BoundRow}
 use Rattle.rdo_acts.specs.declared.work.Work.{Work}
 use Rattle.rdo_acts.proofs.RowUpdated.{row_placed, variable_at, variable_there, erase_unread, erase_nothing, erase_done, erase_stopped}
 use Rattle.rdo_acts.proofs.AreasWritten.{erased_for, unerased_for, erase_unread_for}
-use Rattle.served_selections.proofs.of_row_writes.AreaLists.{nothing_written}
+use Rattle.row_writes.proofs.AreaLists.{nothing_written}
 use Rattle.used_areas.specs.Areas.{areas_changed}
 use Rattle.rdb_meaning.specs.Checks.{act_uses}
 use Rattle.rdo_bind.specs.Acting.{erase, named_act}
 use Rattle.rdo_acts.specs.Scopes.{scope_of}
-use Rattle.served_selections.specs.row_writes.Areas.{EraseKeeps}
-use Rattle.served_selections.specs.row_writes.Areas.{EraseNodes}
+use Rattle.row_writes.specs.Areas.{EraseKeeps}
+use Rattle.row_writes.specs.Areas.{EraseNodes}
 use Rattle.rdo_acts.proofs.WantingRows.{erase_unread_wanting, unerased_wanting}
 use Rattle.rdo_acts.proofs.updating.erase.Goals as goal
 use Rattle.rdo_acts.proofs.updating.erase.Goals.{in_default-2-via-in-Some+in_default, in_default-2-via-in_default}

@@ -1,20 +1,20 @@
 use Rattle.std.proofs.Common.{◌≡◌, ◌⊎◌, inl, inr, None, Ok, Err, refl, subst}
 use Rattle.std.proofs.lemmas.Result.{err_from_is_err_and}
 use Rattle.rdb_meaning.specs.Contents.{Row, relation_named}
-use Rattle.served_selections.specs.row_writes.Rows.{ChangesRow}
+use Rattle.row_writes.specs.Rows.{ChangesRow}
 use Rattle.rdo_values.specs.Places.{IsRangeOf}
 use Rattle.rdo_acts.specs.declared.scope.BoundRow.{BoundRow}
 use Rattle.rdo_acts.specs.declared.work.Work.{Work}
 use Rattle.rdo_acts.proofs.RowMade.{MakesRow}
 use Rattle.rdo_acts.proofs.RowUpdated.{row_placed, variable_at, variable_there, modify_unread, modify_nothing, modify_unmade, modify_done, modify_stopped}
 use Rattle.rdo_acts.proofs.AreasWritten.{modified_for, unmodified_for, modify_unread_for, modify_unmade_for}
-use Rattle.served_selections.proofs.of_row_writes.AreaLists.{nothing_written}
+use Rattle.row_writes.proofs.AreaLists.{nothing_written}
 use Rattle.used_areas.specs.Areas.{areas_changed}
 use Rattle.rdb_meaning.specs.Checks.{act_uses}
 use Rattle.rdo_bind.specs.Acting.{modify, named_act}
 use Rattle.rdo_acts.specs.Scopes.{scope_of}
-use Rattle.served_selections.specs.row_writes.Areas.{ChangeKeeps}
-use Rattle.served_selections.specs.row_writes.Areas.{ChangeNodes}
+use Rattle.row_writes.specs.Areas.{ChangeKeeps}
+use Rattle.row_writes.specs.Areas.{ChangeNodes}
 use Rattle.rdo_acts.proofs.WantingRows.{modify_unread_wanting, modify_unmade_wanting, unmodified_wanting}
 use Rattle.rdo_acts.proofs.updating.modify.Goals as goal
 use Rattle.rdo_acts.proofs.updating.modify.Goals.{in_default-2-via-in-Some+in_default, in_default-2-via-in_default}

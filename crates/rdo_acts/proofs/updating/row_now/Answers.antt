@@ -5,7 +5,7 @@ use Rattle.rdo_acts.proofs.RowUpdated.{row_found, row_unread}
 use Rattle.std.proofs.Common.{ℕ, [], ◌∷◌, sym, subst}
 use Rattle.statement_view.specs.Over.{laid_over}
 use Rattle.statement_view.specs.Areas.{IsNeedOf}
-use Rattle.served_selections.proofs.of_row_writes.AreaLists.{StopsAt}
+use Rattle.row_writes.proofs.AreaLists.{StopsAt}
 use Rattle.rdo_acts.proofs.Wanting.{row_lacked}
 use Rattle.rdo_acts.proofs.updating.row_now.Goals as goal
 

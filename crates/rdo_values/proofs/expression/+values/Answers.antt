@@ -1,6 +1,6 @@
 use Rattle.std.proofs.Common.{◌≡◌, ◌∙◌, sym, ap, map, rules}
 use Rattle.std.proofs.lemmas.Result.{err_from_is_err_and}
-use Rattle.rdo_arithmetic.specs.rdb_meaning.Numbers.{overflow}
+use Rattle.rdb_meaning.specs.Numbers.{overflow}
 use Rattle.rdo_arithmetic.proofs.Exits.{gives_exit}
 use Rattle.rdo_values.specs.declared.bound.BoundExpression as tree
 use Rattle.rdo_values.specs.Views.{expression_of, operations_of, applied_of}

@@ -1,5 +1,5 @@
 use Rattle.std.proofs.Common.{◌≡◌, drop}
-use Rattle.rdo_arithmetic.specs.rdb_meaning.Numbers.{is}
+use Rattle.rdb_meaning.specs.Numbers.{is}
 use Rattle.rdo_values.proofs.Chains.{chained}
 use Rattle.rdo_values.proofs.expression.+values.Given as goal
 

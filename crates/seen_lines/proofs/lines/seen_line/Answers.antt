@@ -1,6 +1,6 @@
 use Rattle.std.proofs.Common.{◌∙◌, ap, sym}
 use Rattle.std.specs.Option.{option_copied}
-use Rattle.committed_lines.proofs.of_line_seat.CommitSteps.{if_ok}
+use Rattle.line_seat.proofs.CommitSteps.{if_ok}
 use Rattle.seen_lines.proofs.Own.{own_seen, other_seen}
 use Rattle.seen_lines.proofs.lines.seen_line.Goals as goal
 

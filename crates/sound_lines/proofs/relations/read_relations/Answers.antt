@@ -2,7 +2,7 @@ use Rattle.std.proofs.Common.{◌≡◌, ◌+◌, true, drop, List, [], ◌∷�
 use Rattle.std.proofs.lemmas.List.{drop_more, drop_all}
 use Rattle.std.specs.FinMap.Entries.{put, is_sorted}
 use Rattle.rdo_ast.specs.Tree.{Name}
-use Rattle.relation_rows.specs.rdb_meaning.declared.tables.Relation.{Relation}
+use Rattle.rdb_meaning.specs.declared.tables.Relation.{Relation}
 use Rattle.rdb_types.specs.Order.{chars_order}
 use Rattle.relation_rows.specs.Relations.{HasRows}
 use Rattle.sound_lines.specs.Contents.{stored, HaveRows}

@@ -1,7 +1,7 @@
 use Rattle.std.proofs.Common.{rules, ◌≡◌, ◌≢◌, ◌∙◌, sym, subst}
 use Rattle.line_versions.specs.Versions.{snap_of}
 use Rattle.line_versions.specs.Course.{with_entry}
-use Rattle.disk_versions.proofs.of_line_moves.Runs.{on_ok}
+use Rattle.line_moves.proofs.Runs.{on_ok}
 use Rattle.version_writing.specs.Slots.{SlotTable, HoldsFile}
 use Rattle.version_writing.proofs.AllHeld.{its_file, held_there, all_held, table_there, third, others_first, others_second, others_third, spends_there, all_hold}
 use Rattle.version_writing.proofs.aside.push_aside.Goals as goal

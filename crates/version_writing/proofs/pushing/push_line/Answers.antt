@@ -2,7 +2,7 @@ use Rattle.std.proofs.Common.{◌-◌, subst}
 use Rattle.line_versions.specs.Versions.{snap_of}
 use Rattle.line_versions.specs.Files.{snap_file, entries_in}
 use Rattle.line_versions.specs.Course.{pushed}
-use Rattle.disk_versions.proofs.of_line_moves.Runs.{still_tells}
+use Rattle.line_moves.proofs.Runs.{still_tells}
 use Rattle.rdb_types.specs.declared.keys.Line.{Line}
 use Rattle.version_writing.proofs.Written.{writes_told}
 use Rattle.version_writing.proofs.Held.{versions_read, versions_stay, versions_pushed, table_pushed}

@@ -1,7 +1,7 @@
 use Rattle.std.proofs.Common.{sym}
 use Rattle.rdb_outside.specs.Runs.{then_reads}
 use Rattle.stable_lines.specs.Slots.{line_at}
-use Rattle.disk_versions.proofs.of_line_moves.Runs.{still_tells}
+use Rattle.line_moves.proofs.Runs.{still_tells}
 use Rattle.disk_versions.proofs.Moves.{right_still, kept_by_reads}
 use Rattle.version_writing.proofs.reading.line_for_reader.Goals as goal
 

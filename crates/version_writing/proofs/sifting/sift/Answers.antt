@@ -1,7 +1,7 @@
 use Rattle.std.proofs.Common.{◌≡◌, ◌≢◌, ◌<◌, ◌-◌, ℕ, ⊎_elim, sym, ap, subst, ◌∙◌, arith}
 use Rattle.std.specs.Prelude.{slice_index}
 use Rattle.rdb_types.specs.declared.keys.Tsn.{Tsn}
-use Rattle.disk_versions.proofs.of_line_moves.Putting.{nat_cases}
+use Rattle.line_moves.proofs.Putting.{nat_cases}
 use Rattle.version_writing.specs.Slots.{pusher_at}
 use Rattle.version_writing.specs.Wanting.{IsUnwantedIn, with_pushers}
 use Rattle.version_writing.proofs.Sifted.{may-more}

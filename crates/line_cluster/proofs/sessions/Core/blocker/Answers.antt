@@ -1,7 +1,7 @@
 use Rattle.std.proofs.Common.{ℕ, sym, ◌∙◌, ◌≡◌, ap, is_some, slice_get, List, Some}
 use Rattle.std.proofs.lemmas.Bool.{false≢true}
 use Rattle.std.proofs.lemmas.Option.{same_Some}
-use Rattle.line_account.specs.session_states.declared.stage.Member.{Member}
+use Rattle.session_states.specs.declared.stage.Member.{Member}
 use Rattle.line_account.specs.stage_steps.Nearer.{is_patient_at}
 use Rattle.line_cluster.proofs.sessions.Core.blocker.Goals as goal
 

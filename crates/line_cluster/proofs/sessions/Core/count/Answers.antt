@@ -1,6 +1,6 @@
 use Rattle.std.proofs.Common.{◌≡◌, ◌<◌, ◌+◌, ◌^◌, ◌∙◌, ◌∷◌, [], ℕ, zero, suc, List, Some, ap, length, sym, subst, slice_get, arith, below_more}
 use Rattle.std.proofs.lemmas.Option.{same_Some}
-use Rattle.line_account.specs.session_states.declared.stage.Member.{Member}
+use Rattle.session_states.specs.declared.stage.Member.{Member}
 use Rattle.line_cluster.specs.Turned.{rounds_at}
 use Rattle.line_cluster.proofs.Bounds.{IsCounted, bounded}
 use Rattle.line_cluster.proofs.sessions.Core.count.Goals as goal

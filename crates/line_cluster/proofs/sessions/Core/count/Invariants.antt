@@ -1,5 +1,5 @@
 use Rattle.std.proofs.Common.{◌≡◌, ◌<◌, ℕ, suc, Some, slice_get}
-use Rattle.line_account.specs.session_states.declared.stage.Member.{Member}
+use Rattle.session_states.specs.declared.stage.Member.{Member}
 use Rattle.line_cluster.specs.Turned.{rounds_at}
 use Rattle.line_cluster.proofs.Bounds.{IsCounted}
 use Rattle.line_cluster.proofs.sessions.Core.count.Given as goal

@@ -1,6 +1,6 @@
 use Rattle.std.proofs.Common.{◌≡◌, ◌-◌, ◌∙◌, sym, ap, subst, refl, map, slice_get, Bool, List, Some, inl, inr, true, false}
 use Rattle.rdb_account.specs.Events.{event_of}
-use Rattle.line_account.specs.session_states.declared.stage.Member.{Member}
+use Rattle.session_states.specs.declared.stage.Member.{Member}
 use Rattle.lent_members.specs.Going.{is_over}
 use Rattle.line_cluster.proofs.Coming.{has-died, looked}
 use Rattle.line_cluster.proofs.Faults.{counts-fewer, other-death}

@@ -1,7 +1,7 @@
 use Rattle.std.proofs.Common.{◌∙◌, ap, refl, sym, slice_set}
 use Rattle.std.proofs.lemmas.Option.{same_Some}
-use Rattle.line_account.specs.session_states.declared.stage.Life.TheVariants.{Dead}
-use Rattle.line_account.specs.session_states.declared.stage.Member.{Member}
+use Rattle.session_states.specs.declared.stage.Life.TheVariants.{Dead}
+use Rattle.session_states.specs.declared.stage.Member.{Member}
 use Rattle.lent_members.specs.Going.{with_life}
 use Rattle.line_cluster.specs.Deaths.{faults_in}
 use Rattle.line_cluster.specs.Sound.{is_over_slot, is_unsound}

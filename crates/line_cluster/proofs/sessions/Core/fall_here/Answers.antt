@@ -1,6 +1,6 @@
 use Rattle.std.proofs.Common.{◌≡◌, ◌∙◌, ap, sym, subst, map, Bool, false, List, Some, slice_get}
 use Rattle.rdb_account.specs.Events.{event_of}
-use Rattle.line_account.specs.session_states.declared.stage.Member.{Member}
+use Rattle.session_states.specs.declared.stage.Member.{Member}
 use Rattle.lent_members.specs.Going.{is_over}
 use Rattle.line_cluster.proofs.Coming.{died-here}
 use Rattle.line_cluster.proofs.Faults.{counts-fewer, other-death}

@@ -1,5 +1,5 @@
 use Rattle.std.proofs.Common.{◌≡◌, ◌-◌, ◌∙◌, List, Some, ap, slice_get, sym}
-use Rattle.line_account.specs.session_states.declared.stage.Member.{Member}
+use Rattle.session_states.specs.declared.stage.Member.{Member}
 use Rattle.line_account.specs.session_stands.Sessions.{dead_in}
 use Rattle.line_cluster.specs.Turned.{sessions}
 use Rattle.line_cluster.proofs.Asleep.{halted-awake, hasty-awake, mourning-awake, sleeps-where}

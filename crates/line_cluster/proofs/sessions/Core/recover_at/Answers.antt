@@ -3,8 +3,8 @@ use Rattle.std.specs.Vec.{vec_len}
 use Rattle.std.proofs.lemmas.Bool.{false≢true}
 use Rattle.rdb_account.specs.Events.{event_of}
 use Rattle.line_store.specs.declared.answers.Fault.{Fault}
-use Rattle.line_account.specs.session_states.declared.stage.Life.{Life}
-use Rattle.line_account.specs.session_states.declared.stage.Member.{Member}
+use Rattle.session_states.specs.declared.stage.Life.{Life}
+use Rattle.session_states.specs.declared.stage.Member.{Member}
 use Rattle.line_account.specs.stage_steps.declared.dying.Recovery.{Recovery}
 use Rattle.line_account.specs.stage_steps.Deaths.{life_behind, recovery_events}
 use Rattle.line_account.specs.stage_steps.Scenes.{scene}

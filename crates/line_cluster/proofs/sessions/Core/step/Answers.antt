@@ -2,8 +2,8 @@ use Rattle.std.proofs.Common.{◌∙◌, ◌+◌, ◌++◌, ◌&&◌, ◌≡◌,
 use Rattle.rdb_types.specs.declared.session.Cause.TheVariants.{Device}
 use Rattle.rdb_account.specs.Events.{event_of}
 use Rattle.line_store.specs.Sights.{Sight}
-use Rattle.line_account.specs.session_states.declared.stage.Member.{Member}
-use Rattle.line_account.specs.session_states.States.{session}
+use Rattle.session_states.specs.declared.stage.Member.{Member}
+use Rattle.session_states.specs.States.{session}
 use Rattle.rdb_drive.specs.Boards.{Less}
 use Rattle.line_account.specs.stage_steps.declared.happening.Happening.{Happening}
 use Rattle.line_account.specs.stage_steps.Happenings.{events_of, handed_back}

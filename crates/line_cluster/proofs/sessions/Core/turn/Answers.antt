@@ -1,6 +1,6 @@
 use Rattle.std.proofs.Common.{◌≡◌, ◌-◌, sym, ◌∙◌, ap, refl, subst, slice_get, Bool, false, true, List, Some}
 use Rattle.std.proofs.lemmas.Option.{same_Some}
-use Rattle.line_account.specs.session_states.declared.stage.Member.{Member}
+use Rattle.session_states.specs.declared.stage.Member.{Member}
 use Rattle.line_account.specs.session_stands.Sessions.{dead_in}
 use Rattle.lent_members.specs.Going.{is_over, is_stopping}
 use Rattle.line_cluster.specs.Deaths.{lives_in}
