@@ -58,7 +58,7 @@ impl<D: Disk + Drop> DiskStore<D> {
 impl<D: Disk + Drop> LineStore for DiskStore<D> {
     ghost use Rattle.std.proofs.Common.{sym};
     ghost use Rattle.change_steps.specs.disk_store.Shown.{sight_of};
-    ghost use Rattle.change_steps.proofs.of_disk_store.Agreeing.{agreeing, opening, standing};
+    ghost use Rattle.disk_store.proofs.Agreeing.{agreeing, opening, standing};
 
     ghost sight = { λ store. sight_of (D.view store.disk) store.held };
 

@@ -2,7 +2,7 @@
 use Rattle.std.specs.Prelude.{◌≡◌, Option, Some, None}
 use Rattle.catalog.specs.declared.reading.Catalog.{Catalog}
 use Rattle.line_view.specs.Knowledge.{Knowledge}
-use Rattle.deleted_areas.proofs.of_sound_statements.Common.{catalog_alike}
+use Rattle.sound_statements.proofs.Common.{catalog_alike}
 use Rattle.session_jobs.specs.Kept.{HasCatalogOf}
 use Rattle.rdo_exec.specs.Coming.{FitsKnown}
 
