@@ -1,6 +1,6 @@
 -- The bytes of a slot determine what it says.
 use Rattle.std.proofs.Common.{◌≡◌, ◌∙◌, sym, ℕ, List, [], ◌∷◌, length, Option, Some, None, ⊎_elim, arith}
-use Rattle.rdb_page.proofs.of_slot_fields.Laws.{word_not_zeros}
+use Rattle.slot_fields.proofs.Laws.{word_not_zeros}
 use Rattle.rdb_page.proofs.States.{one_state}
 use Rattle.rdb_types.specs.declared.keys.Tsn.{Tsn}
 use Rattle.ruj_journal.specs.declared.entry.RujEntry.{RujEntry}

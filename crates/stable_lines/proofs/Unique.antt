@@ -17,7 +17,7 @@ use Rattle.journal_reading.specs.journal_scan.declared.group.Group.{Group}
 use Rattle.journal_reading.specs.journal_scan.Standing.{what_stands}
 use Rattle.journal_reading.specs.journal_scan.Reading.{groups_of}
 use Rattle.journal_reading.specs.journal_scan.Whole.{slots_of, IsWhole, AreGroups}
-use Rattle.journal_reading.proofs.of_journal_scan.Groups.{only}
+use Rattle.journal_scan.proofs.Groups.{only}
 use Rattle.journal_reading.specs.Journal.{standing}
 use Rattle.line_view.specs.Knowledge.{Lines}
 use Rattle.new_database.specs.Maker.{aij_file}
