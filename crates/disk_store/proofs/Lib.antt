@@ -1,5 +1,6 @@
 pub use Rattle.ledger_versions.proofs as of_ledger_versions
 pub mod Members
+pub mod OwnFiles
 pub mod AtMost
 pub mod Sound
 pub mod Readers

@@ -16,3 +16,4 @@ pub mod ChangeSteps
 pub mod Giving
 pub mod Readers
 pub mod Opening
+pub mod OwnFiles

@@ -15,6 +15,7 @@ use Rattle.disk_store.proofs.Closing.{one-member}
 use Rattle.disk_store.proofs.Failing.{does-fail}
 use Rattle.disk_store.proofs.Drawing.{does-draw}
 use Rattle.disk_store.proofs.Raising.{leads-nowhere, leads-root, may-draw, raised-before, raised-now, keeps-root, does-raise, does-refuse-now}
+use Rattle.disk_store.proofs.OwnFiles.{own-none, own-root}
 use Rattle.disk_store.proofs.beginning.ask.Goals as goal
 
 free-below : (kept all : ℕ) (inside now : Numbers) → inside ≡ now → kept ≡ all → kept < inside.ceiling - inside.next → now.next + all < now.ceiling
@@ -109,3 +110,18 @@ returns-clause-less g c more =
     let behind : steps_at c.set_raised.new.self.members s ≡ 0 = ap (λ (x : StoreMemory). steps_at x.members s) comes.2 ∙ ap steps_of (set-here held.members s next c.set_raised.ensures.within) in
     let before : steps_at held.members s ≡ 1 = ap steps_of at.is ∙ ap (λ x. steps_in x at.member) at.at in
     omega (arith, behind, before)
+
+pub returns-then-kept-free-clause-writes : goal.returns-then-kept-free-clause-writes
+returns-then-kept-free-clause-writes g c = own-none (g.D.Disk.view c.args.disk.now)
+
+pub returns-then-held-clause-writes : goal.returns-then-held-clause-writes
+returns-then-held-clause-writes g c = own-none (g.D.Disk.view c.args.disk.now)
+
+pub returns-in_default-clause-writes : goal.returns-in_default-clause-writes
+returns-in_default-clause-writes g c = own-none (g.D.Disk.view c.args.disk.now)
+
+pub returns-in_default-raise_ceiling-clause-writes : goal.returns-in_default-raise_ceiling-clause-writes
+returns-in_default-raise_ceiling-clause-writes g c = own-root 0 (g.D.Disk.view c.args.disk.now) (g.D.Disk.view c.raise_ceiling.new.disk) c.raise_ceiling.ensures.writes
+
+pub returns-clause-writes : goal.returns-clause-writes
+returns-clause-writes g c = own-root 0 (g.D.Disk.view c.args.disk.now) (g.D.Disk.view c.raise_ceiling.new.disk) c.raise_ceiling.ensures.writes

@@ -17,6 +17,7 @@ use Rattle.disk_store.proofs.Failing.{does-fail}
 use Rattle.disk_store.proofs.Restored.{keeps-read}
 use Rattle.disk_store.proofs.Drawing.{does-draw}
 use Rattle.disk_store.proofs.Raising.{leads-read, may-draw-kept, number-is-kept, does-none}
+use Rattle.disk_store.proofs.OwnFiles.{own-reads}
 use Rattle.disk_store.proofs.beginning.draw.Goals as goal
 
 pub returns-in_default-clause-comes : goal.returns-in_default-clause-comes
@@ -65,3 +66,12 @@ returns-then-held-clause-kept g c file slot is h shown =
     let none = none-below held c.settle_ceiling.new.self c.held.inside.numbers (ap (λ (x : StoreMemory). x.numbers) c.held.view_is) c.settle_ceiling.ensures c.if-held.true in
     let kept = number-is-kept (g.D.Disk.view c.args.disk.now) held c.args.s.number at.member at.is at.at h shown in
     omega (arith, none, kept)
+
+pub returns-in_default-clause-writes : goal.returns-in_default-clause-writes
+returns-in_default-clause-writes g c = own-reads (g.D.Disk.view c.args.disk.now) (g.D.Disk.view c.settle.new.disk) c.settle.ensures.reads
+
+pub returns-then-held-clause-writes : goal.returns-then-held-clause-writes
+returns-then-held-clause-writes g c = own-reads (g.D.Disk.view c.args.disk.now) (g.D.Disk.view c.settle.new.disk) c.settle.ensures.reads
+
+pub returns-clause-writes : goal.returns-clause-writes
+returns-clause-writes g c = own-reads (g.D.Disk.view c.args.disk.now) (g.D.Disk.view c.settle.new.disk) c.settle.ensures.reads
