@@ -5,6 +5,7 @@ ghost use Rattle.line_store.specs.Sights.{Does, IsLess, MayAnswer, Steps, steppe
 ghost use Rattle.line_store.specs.declared.answers.Stepped.TheVariants as stepped;
 ghost use Rattle.disk_store.specs.declared.member.MemberStage.TheVariants as stage;
 ghost use Rattle.disk_store.specs.ChangeSteps.{ThroughAt};
+ghost use Rattle.disk_store.specs.OwnFiles.{WritesOwn};
 ghost use Rattle.disk_store.specs.Seats.{IsAtStage, stand_at};
 ghost use Rattle.disk_store.specs.Shown.{sight_of};
 
@@ -35,6 +36,9 @@ pub fn change_step<D: Disk>(disk: &mut D, held: &mut Held, s: Session) -> Result
         (Steps s.number result) (sight_of (D.view disk.old) held.old) (sight_of (D.view disk.new) held.new) }
     ensures less { result ≡ Ok stepped.More → IsLess s.number (sight_of (D.view disk.old) held.old) (sight_of (D.view disk.new) held.new) }
     ensures goes_on { result ≡ Ok stepped.Astray → ⊥ }
+
+    // One slot at most is written, of the database's own files.
+    ensures writes { WritesOwn (D.view disk.old) (D.view disk.new) }
 {
     let member = held.member(s);
     let count = member.written.keys().len() as u32;

@@ -22,6 +22,7 @@ use Rattle.disk_store.specs.ChangeSteps.{named_now, journalled_more}
 use Rattle.disk_store.proofs.Closing.{one-member}
 use Rattle.change_steps.proofs.ChangeCalls.{place-for, fewer-at}
 use Rattle.change_steps.proofs.JournalSteps.{does-name, named-fewer, does-journal, journalled-fewer, header-facts, does-unnamed, does-fault}
+use Rattle.disk_store.proofs.OwnFiles.{own-journal}
 use Rattle.change_steps.proofs.journalling.journal_key.Goals as goal
 
 behind-image : (w : View) (what : Journalled) (s : ℕ) (all : List Undo) (undo : Undo) (stable : ℕ) (g : Ledger) → what ≡ BeforeImage → LedgerFacts w (ledger_with what s all undo stable g) → LedgerFacts w (stands_as s (changing (all ++ undo ∷ []) stable) g)
@@ -124,3 +125,15 @@ returns-else-named-clause-less g c more =
     let same : c.member-member.result.now ≡ comes.0 = same_Some _ _ (sym c.member-member.ensures ∙ comes.1) in
     fewer-at held.members c.note_named.new.self.members s comes.0 (named_now comes.0) comes.1 (ap (λ (x : StoreMemory). x.members) comes.2)
     (named-fewer comes.0 (subst (λ (x : Member). x.stage ≡ stage.Changing) one c.requires.changes.at) (subst (λ (x : Member). x.named ≡ false) same c.if-named.false))
+
+pub returns-then-named-clause-writes : goal.returns-then-named-clause-writes
+returns-then-named-clause-writes g c = let writes = c.journal_next.ensures.writes in own-journal c.args.s.number writes.0 (g.D.Disk.view c.args.disk.now) (g.D.Disk.view c.journal_next.new.disk) writes.1
+
+pub returns-in-Err-clause-writes : goal.returns-in-Err-clause-writes
+returns-in-Err-clause-writes g c = let writes = c.journal_next.ensures.writes in own-journal c.args.s.number writes.0 (g.D.Disk.view c.args.disk.now) (g.D.Disk.view c.journal_next.new.disk) writes.1
+
+pub returns-in-Ok-BeforeImage-clause-writes : goal.returns-in-Ok-BeforeImage-clause-writes
+returns-in-Ok-BeforeImage-clause-writes g c = let writes = c.journal_next.ensures.writes in own-journal c.args.s.number writes.0 (g.D.Disk.view c.args.disk.now) (g.D.Disk.view c.journal_next.new.disk) writes.1
+
+pub returns-else-named-clause-writes : goal.returns-else-named-clause-writes
+returns-else-named-clause-writes g c = let writes = c.journal_next.ensures.writes in own-journal c.args.s.number writes.0 (g.D.Disk.view c.args.disk.now) (g.D.Disk.view c.journal_next.new.disk) writes.1

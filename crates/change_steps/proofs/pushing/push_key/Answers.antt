@@ -1,7 +1,8 @@
-use Rattle.std.proofs.Common.{◌≡◌, IsTrue, Err, inl, inr, sym, ap, subst, ◌∙◌, arith}
+use Rattle.std.proofs.Common.{◌≡◌, ◌-◌, IsTrue, Err, inl, inr, sym, ap, subst, ◌∙◌, arith}
 use Rattle.std.proofs.lemmas.Option.{same_Some}
 use Rattle.rdb_outside.specs.Disk.{IsPending}
 use Rattle.rdb_outside.specs.Moments.{each_slot}
+use Rattle.line_versions.specs.Versions.{snap_of}
 use Rattle.line_store.specs.Calls.{Fails, GoesOn}
 use Rattle.line_store.specs.Sights.{Does}
 use Rattle.disk_store.specs.declared.member.Member.{Member}
@@ -11,6 +12,8 @@ use Rattle.disk_store.specs.Seats.{stand_at}
 use Rattle.disk_store.specs.Shown.{sight_of}
 use Rattle.change_steps.proofs.PushFaults.{does-push-fail}
 use Rattle.change_steps.proofs.NextPushed.{does-next-pass, does-next-push, next-passed-less, next-pushed-less}
+use Rattle.disk_store.specs.OwnFiles.{WritesOwn}
+use Rattle.disk_store.proofs.OwnFiles.{own-none, own-version}
 use Rattle.change_steps.proofs.pushing.push_key.Goals as goal
 
 pub returns-in-Err-clause-comes : goal.returns-in-Err-clause-comes
@@ -46,4 +49,16 @@ returns-clause-less g c more =
     elim c.in_default.ensures.pushed [
       | inl pushes ↦ next-pushed-less v w c.args.held.now c.push_next.new.self c.args.s.number c.args.key c.requires.changes c.requires.next pushes
       | inr passes ↦ next-passed-less v c.args.held.now c.push_next.new.self c.args.s.number c.args.key c.requires.changes c.requires.next passes.0
+    ]
+
+pub returns-in-Err-clause-writes : goal.returns-in-Err-clause-writes
+returns-in-Err-clause-writes g c = let off = c.in-Err.ensures.breaks in own-version (snap_of c.args.key) (off.chain - 1) (g.D.Disk.view c.args.disk.now) (g.D.Disk.view c.push_next.new.disk) off.takes.writes
+
+pub returns-clause-writes : goal.returns-clause-writes
+returns-clause-writes g c =
+    let v = g.D.Disk.view c.args.disk.now in
+    let w = g.D.Disk.view c.push_next.new.disk in
+    elim c.in_default.ensures.pushed [
+      | inl pushes ↦ own-version (snap_of c.args.key) (pushes.chain - 1) v w pushes.takes.writes
+      | inr passes ↦ subst (λ d. WritesOwn v (g.D.Disk.view d)) (sym passes.1) (own-none v)
     ]
