@@ -12,6 +12,7 @@ use Rattle.disk_store.proofs.Failing.{does-fail}
 use Rattle.disk_store.proofs.Closing.{one-member}
 use Rattle.disk_store.proofs.Restored.{keeps-read, does-restore}
 use Rattle.disk_store.specs.Commits.{is_flying}
+use Rattle.disk_store.proofs.OwnFiles.{own-reads}
 use Rattle.store_endings.proofs.restoring.restore.Goals as goal
 
 pub set_dead-requires-clause-flies : goal.set_dead-requires-clause-flies
@@ -49,3 +50,9 @@ returns-clause-less g c more =
     let behind : steps_at c.set_dead.new.self.members s ≡ 1 = ap (λ (x : StoreMemory). steps_at x.members s) comes.2 ∙ ap steps_of (set-here held.members s next c.set_dead.ensures.within) in
     let before : steps_at held.members s ≡ 2 = ap steps_of at.is ∙ ap (λ x. steps_in x at.member) at.at in
     omega (arith, behind, before)
+
+pub returns-in_default-clause-writes : goal.returns-in_default-clause-writes
+returns-in_default-clause-writes g c = own-reads (g.D.Disk.view c.args.disk.now) (g.D.Disk.view c.settle.new.disk) c.settle.ensures.reads
+
+pub returns-clause-writes : goal.returns-clause-writes
+returns-clause-writes g c = own-reads (g.D.Disk.view c.args.disk.now) (g.D.Disk.view c.settle.new.disk) c.settle.ensures.reads

@@ -19,6 +19,7 @@ use Rattle.disk_store.proofs.Members.{set-here}
 use Rattle.disk_store.proofs.DeadStages.{undoing-ready}
 use Rattle.disk_store.proofs.Closing.{one-member}
 use Rattle.store_endings.proofs.PutBack.{undone-with, does-back, does-none-left, fewer-left}
+use Rattle.disk_store.proofs.OwnFiles.{own-area, own-none}
 use Rattle.store_endings.proofs.undoing.put_back.Goals as goal
 
 -- it was dead before
@@ -123,3 +124,12 @@ returns-in-Err-clause-comes g c =
           (λ file slot is. absurd (c.in-Err.ensures.bad file slot (ap Err is) shown.tells shown.ledger u.transaction u.all shown.facts u.stands u.is_open (ap (λ (x : Member). x.tsn) mine ∙ u.number) (ap (λ (l : Limits). l.pages) (c.limits-limits.ensures ∙ sym shown.limits))))
           faults faults-behind;
     }))
+
+pub returns-then-left-eq0-clause-writes : goal.returns-then-left-eq0-clause-writes
+returns-then-left-eq0-clause-writes g c = own-none (g.D.Disk.view c.args.disk.now)
+
+pub returns-in-Ok-clause-writes : goal.returns-in-Ok-clause-writes
+returns-in-Ok-clause-writes g c = let writes = c.undo.ensures.writes in own-area writes.0 writes.1 (g.D.Disk.view c.args.disk.now) (g.D.Disk.view c.undo.new.disk) writes.3
+
+pub returns-in-Err-clause-writes : goal.returns-in-Err-clause-writes
+returns-in-Err-clause-writes g c = let writes = c.undo.ensures.writes in own-area writes.0 writes.1 (g.D.Disk.view c.args.disk.now) (g.D.Disk.view c.undo.new.disk) writes.3
