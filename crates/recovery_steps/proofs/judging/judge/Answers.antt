@@ -16,6 +16,7 @@ use Rattle.store_endings.proofs.of_disk_store.Judged.{does-lose}
 use Rattle.recovery_steps.proofs.Awaited.{awaited}
 use Rattle.recovery_steps.proofs.Settling.{told-on, both-read, keeps-both, stable-behind}
 use Rattle.recovery_steps.proofs.Saved.{does-save}
+use Rattle.store_endings.proofs.of_disk_store.OwnFiles.{own-reads}
 use Rattle.recovery_steps.proofs.judging.judge.Goals as goal
 
 pub returns-in_default-clause-comes : goal.returns-in_default-clause-comes
@@ -89,3 +90,15 @@ returns-clause-less g c more =
     let behind : steps_at c.set_dead.new.self.members s ≡ c.member.result.now.journalled + 3 = ap (λ (x : StoreMemory). steps_at x.members s) comes.2 ∙ ap steps_of (set-here held.members s next c.set_dead.ensures.within) in
     let before : steps_at held.members s ≡ m.journalled + 4 = ap steps_of comes.1 ∙ ap (λ x. steps_in x m) its.at in
     omega (arith, behind, before, left)
+
+pub returns-in_default-clause-writes : goal.returns-in_default-clause-writes
+returns-in_default-clause-writes g c = own-reads (g.D.Disk.view c.args.disk.now) (g.D.Disk.view c.settle.new.disk) c.settle.ensures.reads
+
+pub returns-in_default-has_group-clause-writes : goal.returns-in_default-has_group-clause-writes
+returns-in_default-has_group-clause-writes g c = own-reads (g.D.Disk.view c.args.disk.now) (g.D.Disk.view c.has_group.new.disk) (both-read (g.D.Disk.view c.args.disk.now) (g.D.Disk.view c.settle.new.disk) (g.D.Disk.view c.has_group.new.disk) c.settle.ensures.reads c.settle.ensures.keeps c.has_group.ensures.reads)
+
+pub returns-then-stands-clause-writes : goal.returns-then-stands-clause-writes
+returns-then-stands-clause-writes g c = own-reads (g.D.Disk.view c.args.disk.now) (g.D.Disk.view c.has_group.new.disk) (both-read (g.D.Disk.view c.args.disk.now) (g.D.Disk.view c.settle.new.disk) (g.D.Disk.view c.has_group.new.disk) c.settle.ensures.reads c.settle.ensures.keeps c.has_group.ensures.reads)
+
+pub returns-clause-writes : goal.returns-clause-writes
+returns-clause-writes g c = own-reads (g.D.Disk.view c.args.disk.now) (g.D.Disk.view c.has_group.new.disk) (both-read (g.D.Disk.view c.args.disk.now) (g.D.Disk.view c.settle.new.disk) (g.D.Disk.view c.has_group.new.disk) c.settle.ensures.reads c.settle.ensures.keeps c.has_group.ensures.reads)
