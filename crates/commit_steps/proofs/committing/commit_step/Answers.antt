@@ -15,6 +15,8 @@ use Rattle.disk_store.proofs.Closing.{one-member}
 use Rattle.commit_steps.proofs.CommitNone.{does-commit-none}
 use Rattle.commit_steps.proofs.CommitGoes.{does-further, does-again, less-left}
 use Rattle.commit_steps.proofs.CommitLands.{does-last}
+use Rattle.disk_store.proofs.OwnFiles.{own-none}
+use Rattle.commit_steps.proofs.Turning.{writes-own}
 use Rattle.commit_steps.proofs.committing.commit_step.Goals as goal
 
 pub returns-then-writes_none-clause-comes : goal.returns-then-writes_none-clause-comes
@@ -97,3 +99,15 @@ returns-in-Err-clause-comes g c =
     subst (λ new. Does s (stand_at held.members s) (λ h k. Fails s c.in-Err.fault h k) (sight_of v held) (sight_of w new))
     (sym (comes.2 ∙ ap (λ (t : CommitTurn). with_member s (at_stage (stage.Committing t) m) held) c.made_again.ensures))
     (does-again v w held s m was turn at c.sound.ensures c.keeps_commits.ensures (ready-now held s m turn c.keeps_commits.ensures turned was).0 (Err c.in-Err.fault) makes c.in-Err.fault (λ e. makes.failed (ap Err e)) (λ file slot e. ap Err e))
+
+pub returns-then-writes_none-clause-writes : goal.returns-then-writes_none-clause-writes
+returns-then-writes_none-clause-writes g c = own-none (g.D.Disk.view c.args.disk.now)
+
+pub returns-then-is_through-clause-writes : goal.returns-then-is_through-clause-writes
+returns-then-is_through-clause-writes g c = let comes = c.land.ensures.comes in writes-own (g.D.Disk.view c.args.disk.now) (g.D.Disk.view c.turn_on.new.disk) (c.in-Ok.ensures comes.0 comes.1).writes
+
+pub returns-else-is_through-clause-writes : goal.returns-else-is_through-clause-writes
+returns-else-is_through-clause-writes g c = let comes = c.set_turn.ensures.comes in writes-own (g.D.Disk.view c.args.disk.now) (g.D.Disk.view c.turn_on.new.disk) (c.in-Ok.ensures comes.0 comes.1).writes
+
+pub returns-in-Err-clause-writes : goal.returns-in-Err-clause-writes
+returns-in-Err-clause-writes g c = let comes = c.set_turn-in-Err.ensures.comes in writes-own (g.D.Disk.view c.args.disk.now) (g.D.Disk.view c.turn_on.new.disk) (c.in-Err.ensures comes.0 comes.1).writes
