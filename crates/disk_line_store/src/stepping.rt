@@ -3,6 +3,7 @@ ghost use Rattle.std.specs.Prelude.{◌≡◌, Ok};
 ghost use Rattle.line_store.specs.declared.answers.Stepped.TheVariants as stepped;
 ghost use Rattle.line_store.specs.Seats.{IsMember, IsUnderWay};
 ghost use Rattle.line_store.specs.Sights.{Does, Steps, stepped_to, MayAnswer, IsLess};
+ghost use Rattle.change_steps.specs.disk_store.OwnFiles.{WritesOwn};
 ghost use Rattle.change_steps.specs.disk_store.Seats.{stand_at, IsAtStage};
 ghost use Rattle.change_steps.specs.disk_store.Shown.{sight_of};
 
@@ -29,6 +30,9 @@ pub(crate) fn step<D: Disk>(disk: &mut D, held: &mut Held, s: Session) -> Result
     ensures comes { Does s.number (stepped_to (stand_at held.old.members s.number) result)
         (Steps s.number result) (sight_of (D.view disk.old) held.old) (sight_of (D.view disk.new) held.new) }
     ensures less { result ≡ Ok stepped.More → IsLess s.number (sight_of (D.view disk.old) held.old) (sight_of (D.view disk.new) held.new) }
+
+    // One slot at most is written, of the database's own files.
+    ensures writes { WritesOwn (D.view disk.old) (D.view disk.new) }
 {
     match stage_of(held, s) {
         MemberStage::Beginning(Ceiling::Asking) => ask(disk, held, s),
