@@ -27,6 +27,7 @@ pub(crate) fn journal_key<D: Disk>(
         (Steps s.number result) (sight_of (D.view disk.old) held.old) (sight_of (D.view disk.new) held.new) }
     ensures less { result ≡ Ok stepped.More → IsLess s.number (sight_of (D.view disk.old) held.old) (sight_of (D.view disk.new) held.new) }
     ensures goes_on { result ≡ Ok stepped.Astray → ⊥ }
+    ensures tables { held.new.tables ≡ held.old.tables }
 {
     held.sound();
     let member = held.member(s);

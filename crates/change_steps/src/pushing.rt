@@ -31,6 +31,7 @@ fn push_key<D: Disk>(
         (Steps s.number result) (sight_of (D.view disk.old) held.old) (sight_of (D.view disk.new) held.new) }
     ensures less { result ≡ Ok stepped.More → IsLess s.number (sight_of (D.view disk.old) held.old) (sight_of (D.view disk.new) held.new) }
     ensures goes_on { result ≡ Ok stepped.Astray → ⊥ }
+    ensures tables { held.new.tables ≡ held.old.tables }
 {
     held.sound();
     if let Err(fault) = held.push_next(disk, s, key, place) {
@@ -52,6 +53,7 @@ pub(crate) fn push_line<D: Disk>(
         (Steps s.number result) (sight_of (D.view disk.old) held.old) (sight_of (D.view disk.new) held.new) }
     ensures less { result ≡ Ok stepped.More → IsLess s.number (sight_of (D.view disk.old) held.old) (sight_of (D.view disk.new) held.new) }
     ensures goes_on { result ≡ Ok stepped.Astray → ⊥ }
+    ensures tables { held.new.tables ≡ held.old.tables }
 {
     held.sound();
     let member = held.member(s);

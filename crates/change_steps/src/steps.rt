@@ -19,8 +19,9 @@ use rdb_types::Session;
 fn end_change<D: Disk>(_disk: &D, held: &mut Held, s: Session)
     requires member { IsMember s.number }
     requires through { ThroughAt held.old.members s.number }
-    ensures { Does s.number (stepped_to (stand_at held.old.members s.number) (Ok stepped.Done))
+    ensures does { Does s.number (stepped_to (stand_at held.old.members s.number) (Ok stepped.Done))
         (Steps s.number (Ok stepped.Done)) (sight_of (D.view _disk.now) held.old) (sight_of (D.view _disk.now) held.new) }
+    ensures tables { held.new.tables ≡ held.old.tables }
 {
     held.sound();
     held.end_change(s);
@@ -35,6 +36,7 @@ pub fn change_step<D: Disk>(disk: &mut D, held: &mut Held, s: Session) -> Result
         (Steps s.number result) (sight_of (D.view disk.old) held.old) (sight_of (D.view disk.new) held.new) }
     ensures less { result ≡ Ok stepped.More → IsLess s.number (sight_of (D.view disk.old) held.old) (sight_of (D.view disk.new) held.new) }
     ensures goes_on { result ≡ Ok stepped.Astray → ⊥ }
+    ensures tables { held.new.tables ≡ held.old.tables }
 {
     let member = held.member(s);
     let count = member.written.keys().len() as u32;

@@ -13,6 +13,8 @@ ghost use Rattle.disk_store.specs.Commits.{HasSome};
 ghost use Rattle.disk_store.specs.Seats.{stand_at, IsAtStage};
 ghost use Rattle.disk_store.specs.Shown.{sight_of};
 ghost use Rattle.commit_steps.specs.Turns.{turn_again, group_for, WritesNone, MakesTurn};
+ghost use Rattle.disk_store.specs.Landing.{PutsAll};
+ghost use Rattle.disk_store.specs.ledger_versions.disk_seats.line_moves.Lines.{ChangedLines};
 
 use disk_store::{Held, Member, MemberStage};
 use line_seat::{CommitStage, GroupPlace};
@@ -141,6 +143,7 @@ pub fn commit_step<D: Disk>(disk: &mut D, held: &mut Held, s: Session) -> Result
     ensures comes { Does s.number (stepped_to (stand_at held.old.members s.number) result)
         (Steps s.number result) (sight_of (D.view disk.old) held.old) (sight_of (D.view disk.new) held.new) }
     ensures less { result ≡ Ok stepped.More → IsLess s.number (sight_of (D.view disk.old) held.old) (sight_of (D.view disk.new) held.new) }
+    ensures tables { (lines : ChangedLines) × PutsAll held.old.tables lines held.new.tables }
 {
     held.sound();
     held.keeps_commits();

@@ -109,6 +109,7 @@ pub fn ask<D: Disk>(disk: &mut D, held: &mut Held, s: Session) -> Result<Stepped
         (Steps s.number result) (sight_of (D.view disk.old) held.old) (sight_of (D.view disk.new) held.new) }
     ensures less { result ≡ Ok stepped.More → IsLess s.number (sight_of (D.view disk.old) held.old) (sight_of (D.view disk.new) held.new) }
     ensures used_up { (file : File) (slot : ℕ) → IsErrOf result (Fault.Bad file slot) → 2 ^ 62 < held.old.numbers.written + 64 }
+    ensures tables { held.new.tables ≡ held.old.tables }
 {
     let free = held.numbers.ceiling.saturating_sub(held.numbers.next);
     if held.kept() < free {
@@ -141,6 +142,7 @@ pub fn draw<D: Disk>(disk: &mut D, held: &mut Held, s: Session) -> Result<Steppe
     // The number that was kept is there.
     ensures kept { (file : File) (slot : ℕ) → IsErrOf result (Fault.Bad file slot)
         → (h : Shelf) → Shown (D.view disk.old) held.old h → ⊥ }
+    ensures tables { held.new.tables ≡ held.old.tables }
 {
     let Ok(()) = settle(disk) else {
         return Err(Fault::Failed);

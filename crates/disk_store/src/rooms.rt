@@ -130,6 +130,8 @@ pub fn take_room<D: Disk>(
 
     // No session is another than it was, whoever takes the page.
     ensures members { held.new.members ≡ held.old.members }
+    ensures tables { (held.new.tables ≡ held.old.tables) ⊎ ((file page class : ℕ) × IsOwner file key.area
+        × IsNew (pages_of held.old.tables file) page × TakesIn file page key.area class held.old.tables held.new.tables) }
 {
     let Some(file) = storage_area(key.area) else {
         unreachable!()

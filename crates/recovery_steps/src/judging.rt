@@ -15,6 +15,8 @@ ghost use Rattle.store_endings.specs.disk_store.declared.member.MemberStage.TheV
 ghost use Rattle.store_endings.specs.disk_store.declared.member.Recovery.TheVariants as recovery;
 ghost use Rattle.store_endings.specs.disk_store.Seats.{stand_at, IsAtStage};
 ghost use Rattle.store_endings.specs.disk_store.Shown.{sight_of};
+ghost use Rattle.store_endings.specs.disk_store.Landing.{PutsAll};
+ghost use Rattle.store_endings.specs.disk_store.ledger_versions.disk_seats.line_moves.Lines.{ChangedLines};
 
 use disk_seats::settle;
 use line_seat::GroupPlace;
@@ -64,6 +66,7 @@ pub fn judge<D: Disk>(
     ensures comes { Does s.number (stepped_to (stand_at held.old.members s.number) result)
         (Steps s.number result) (sight_of (D.view disk.old) held.old) (sight_of (D.view disk.new) held.new) }
     ensures less { result ≡ Ok stepped.More → IsLess s.number (sight_of (D.view disk.old) held.old) (sight_of (D.view disk.new) held.new) }
+    ensures tables { (lines : ChangedLines) × PutsAll held.old.tables lines held.new.tables }
 {
     held.sound();
     held.keeps_commits();

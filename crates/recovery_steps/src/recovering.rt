@@ -6,6 +6,8 @@ ghost use Rattle.line_store.specs.declared.answers.Stepped.TheVariants as steppe
 ghost use Rattle.store_endings.specs.disk_store.declared.member.MemberStage.TheVariants as stage;
 ghost use Rattle.store_endings.specs.disk_store.Seats.{stand_at, IsAtStage};
 ghost use Rattle.store_endings.specs.disk_store.Shown.{sight_of};
+ghost use Rattle.store_endings.specs.disk_store.Landing.{PutsAll};
+ghost use Rattle.store_endings.specs.disk_store.ledger_versions.disk_seats.line_moves.Lines.{ChangedLines};
 
 use crate::judge;
 use line_store::{Fault, Stepped};
@@ -28,6 +30,7 @@ pub fn recover<D: Disk>(
     ensures comes { Does s.number (stepped_to (stand_at held.old.members s.number) result)
         (Steps s.number result) (sight_of (D.view disk.old) held.old) (sight_of (D.view disk.new) held.new) }
     ensures less { result ≡ Ok stepped.More → IsLess s.number (sight_of (D.view disk.old) held.old) (sight_of (D.view disk.new) held.new) }
+    ensures tables { (lines : ChangedLines) × PutsAll held.old.tables lines held.new.tables }
 {
     match recovery {
         Recovery::Ending => bury(disk, held, s),

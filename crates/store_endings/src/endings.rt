@@ -24,6 +24,7 @@ pub fn put_away<D: Disk>(disk: &mut D, held: &mut Held, s: Session) -> Result<St
         (Steps s.number result) (sight_of (D.view disk.old) held.old) (sight_of (D.view disk.new) held.new) }
     ensures slots { OnOk result (HasNoSlots s.number held.new) }
     ensures less { result ≡ Ok stepped.More → IsLess s.number (sight_of (D.view disk.old) held.old) (sight_of (D.view disk.new) held.new) }
+    ensures tables { held.new.tables ≡ held.old.tables }
 {
     let Ok(()) = close(disk, s.number) else {
         return Err(Fault::Failed);
@@ -42,6 +43,7 @@ pub fn bury<D: Disk>(disk: &mut D, held: &mut Held, s: Session) -> Result<Steppe
         (Steps s.number result) (sight_of (D.view disk.old) held.old) (sight_of (D.view disk.new) held.new) }
     ensures slots { OnOk result (HasNoSlots s.number held.new) }
     ensures less { result ≡ Ok stepped.More → IsLess s.number (sight_of (D.view disk.old) held.old) (sight_of (D.view disk.new) held.new) }
+    ensures tables { held.new.tables ≡ held.old.tables }
 {
     let Ok(()) = close(disk, s.number) else {
         return Err(Fault::Failed);

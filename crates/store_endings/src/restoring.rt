@@ -27,6 +27,7 @@ pub fn restore<D: Disk>(
     ensures comes { Does s.number (stepped_to (stand_at held.old.members s.number) result)
         (Steps s.number result) (sight_of (D.view disk.old) held.old) (sight_of (D.view disk.new) held.new) }
     ensures less { result ≡ Ok stepped.More → IsLess s.number (sight_of (D.view disk.old) held.old) (sight_of (D.view disk.new) held.new) }
+    ensures tables { held.new.tables ≡ held.old.tables }
 {
     let Ok(()) = settle(disk) else {
         return Err(Fault::Failed);

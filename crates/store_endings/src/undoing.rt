@@ -40,6 +40,7 @@ pub fn put_back<D: Disk>(
     ensures comes { Does s.number (stepped_to (stand_at held.old.members s.number) result)
         (Steps s.number result) (sight_of (D.view disk.old) held.old) (sight_of (D.view disk.new) held.new) }
     ensures less { result ≡ Ok stepped.More → IsLess s.number (sight_of (D.view disk.old) held.old) (sight_of (D.view disk.new) held.new) }
+    ensures tables { held.new.tables ≡ held.old.tables }
 {
     if left == 0 {
         let recovery = Recovery::Restoring;
