@@ -20,7 +20,7 @@ does-nothing s R sight all = record {
   mine = refl;
   others = λ t apart. refl;
   steps = λ t apart. refl;
-  each = λ h shown. record { shelf = h; shown = shown; related = all h shown; lasts = lasts-still sight.left h; opens = λ t early was. was };
+  each = λ h shown. record { shelf = h; shown = shown; related = all h shown; lasts = lasts-still sight.left h; opens = λ t early was. was; aside = λ t image early is. is };
 }
 
 -- what is related so, is related otherwise
@@ -30,7 +30,7 @@ does-as s there R Q old new all does = record {
   others = does.others;
   steps = does.steps;
   each = λ h shown. let it : Behind old new R h = does.each h shown in
-      record { shelf = it.shelf; shown = it.shown; related = all h it.shelf shown it.shown it.related; lasts = it.lasts; opens = it.opens };
+      record { shelf = it.shelf; shown = it.shown; related = all h it.shelf shown it.shown it.related; lasts = it.lasts; opens = it.opens; aside = it.aside };
 }
 
 -- ---- two calls
@@ -66,6 +66,7 @@ does-in-turn s there end R Q P a b c later between both first then = record {
         related = both h m.shelf g.shelf m.related g.related;
         lasts = lasts-in-turn a.left b.left c.left h m.shelf g.shelf (later h m.shelf m.related) (between h m.shelf g.shelf m.related g.related) m.lasts g.lasts;
         opens = λ t early was. g.opens t (let le = later h m.shelf m.related in omega (arith, early, le)) (m.opens t early was);
+        aside = λ t image early is. m.aside t image early (g.aside t image (let le = later h m.shelf m.related in omega (arith, early, le)) is);
       };
 }
 

@@ -1,6 +1,7 @@
 -- What a store shows of what it holds. A store on a disk holds its lines there, so that its memory alone doesn't say which they are: it shows a shelf, and which one is a relation.
 use Rattle.std.specs.Prelude.{take, ◌≡◌, ◌≤◌, ◌<◌, ◌==◌, ◌^◌, ℕ, true, false, List, [], Option, Some, None, Result, Ok, Err, is_some}
 use Rattle.rdb_outside.specs.rdb_types.declared.keys.Dbkey.{Dbkey}
+use Rattle.rdb_outside.specs.Disk.{Image}
 use Rattle.line_view.specs.Knowledge.{Lines, line_in, lines_in}
 use Rattle.line_view.specs.Held.{Held, with_line, with_area}
 use Rattle.line_store.specs.declared.answers.Fault.{Fault}
@@ -24,6 +25,8 @@ pub record Sight : Type 1 where
   pub left : ℕ → Lines → Type 0
   -- whether a store can be opened from each image that a crash since a moment might have left
   pub opens : ℕ → Type 0
+  -- whether an image has, of the files that aren't the database's, what a crash since a moment might have left of them
+  pub aside : ℕ → Image → Type 0
 
 -- a seat without lines
 abbrev pub bare : Seat → Seat
@@ -57,13 +60,14 @@ MayBeOpened sight = (h : Shelf) → sight.shows h → sight.opens h.clock.time
 
 -- ---- calls
 
--- A shelf is shown behind the call that is related to the one before it. From what a crash might have left a store can be opened as before it.
+-- A shelf is shown behind the call that is related to the one before it. From what a crash might have left a store can be opened as before it, and other files are left alone.
 pub record Behind (old new : Sight) (R : Shelf → Shelf → Type 0) (before : Shelf) : Type 0 where
   pub shelf : Shelf
   pub shown : new.shows shelf
   pub related : R before shelf
   pub lasts : Lasts old.left new.left before shelf
   pub opens : (t : ℕ) → t ≤ before.clock.time → old.opens t → new.opens t
+  pub aside : (t : ℕ) (image : Image) → t ≤ before.clock.time → new.aside t image → old.aside t image
 
 -- Session s comes to stand there, and others stand as they did and have as many steps. Where a shelf was shown, one is shown that is related to it.
 pub record Does (s : ℕ) (there : Seat) (R : Shelf → Shelf → Type 0) (old new : Sight) : Type 0 where

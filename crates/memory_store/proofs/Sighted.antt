@@ -25,6 +25,7 @@ behind k new R h is related = record {
   related = subst (λ (x : Shelf). R x (shelf_of new)) (sym is) related;
   lasts = record { since = λ t lines early left. absurd left };
   opens = λ t early was lines left. absurd left;
+  aside = λ t image early is. is;
 }
 
 pub moved : (k new : Kept) (s : ℕ) (seat there : Seat) (R : Shelf → Shelf → Type 0) → Moves s seat (shelf_of k) (shelf_of new) → bare seat ≡ bare there → R (shelf_of k) (shelf_of new) → Does s there R (sight_of k) (sight_of new)

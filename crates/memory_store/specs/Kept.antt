@@ -108,9 +108,13 @@ left_of k t lines = ⊥
 abbrev pub none_of : Kept → ℕ → Type 0
 none_of k t = (lines : Lines) → left_of k t lines → ⊥
 
+-- nor has it other files
+abbrev pub nothing_of : Kept → ℕ → Image → Type 0
+nothing_of k t image = ⊥
+
 -- it shows the one shelf that it holds
 abbrev pub sight_of : Kept → Sight
-sight_of k = record { shows = λ h. h ≡ shelf_of k; stand = seat_at k.seats; steps = λ s. 0; left = left_of k; opens = none_of k }
+sight_of k = record { shows = λ h. h ≡ shelf_of k; stand = seat_at k.seats; steps = λ s. 0; left = left_of k; opens = none_of k; aside = nothing_of k }
 
 -- no step is ever left
 pub none_left : 0 < 2 ^ 64
