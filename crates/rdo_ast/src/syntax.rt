@@ -202,8 +202,20 @@ pub enum Statement {
 }
 
 /// What a script holds: a statement, or the line and column of a token with which no statement goes on.
-#[derive(Drop)]
 pub enum Item {
     Statement(Statement),
     SyntaxAt { line: u32, column: u32 },
+}
+
+// By hand, so that it is one call wherever one is let go.
+impl Drop for Item {
+    fn drop(self) {
+        match self {
+            Item::Statement(_statement) => {}
+            Item::SyntaxAt {
+                line: _line,
+                column: _column,
+            } => {}
+        }
+    }
 }
