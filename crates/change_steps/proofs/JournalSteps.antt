@@ -13,7 +13,7 @@ use Rattle.rdb_outside.specs.Causes.{Rose}
 use Rattle.rdb_outside.specs.Disk.{View, IsPending}
 use Rattle.line_view.specs.declared.writes.Write.{Write}
 use Rattle.line_view.specs.Knowledge.{Lines}
-use Rattle.line_store.specs.Seats.{in_flight}
+use Rattle.line_store.specs.Seats.{in_flight, failed_at}
 use Rattle.line_store.specs.Shelves.{Shelf}
 use Rattle.line_store.specs.Calls.{Moves, GoesOn, Fails}
 use Rattle.line_store.specs.declared.answers.Fault.{Fault}
@@ -273,11 +273,11 @@ module _ (v w : View) (held : StoreMemory) (s : ℕ) (m : Member) (was : slice_g
       | inr broke ↦ broke
     ]
 
-    pub does-fault : (fault : Fault) → (fault ≡ Failed → Rose v.faults w.faults) → ((h : Shelf) → Shown v held h → (file : FileId) (slot : ℕ) → fault ≡ Bad file slot → ⊥) → Does s (stand_at held.members s) (λ h g. Fails s fault h g) (sight_of v held) (sight_of w (with_member s b held))
+    pub does-fault : (fault : Fault) → (fault ≡ Failed → Rose v.faults w.faults) → ((h : Shelf) → Shown v held h → (file : FileId) (slot : ℕ) → fault ≡ Bad file slot → ⊥) → Does s (failed_at (stand_at held.members s)) (λ h g. Fails s fault h g) (sight_of v held) (sight_of w (with_member s b held))
     does-fault fault rose good = does-break v w held behind-fault s m b was at (becomes-member held held.numbers s b) refl refl refl only.told only.leaves only.later only.no_fewer broken-now stays-shown space-same fault rose good
 
     -- a header that was written stands: it isn't written again
-    pub does-unnamed : (file : FileId) (i : ℕ) → m.named ≡ true → (IsTrue v.tells → named (v.content (ruj_file s) 0) ≢ m.tsn.number) → Does s (stand_at held.members s) (λ h g. Fails s (Bad file i) h g) (sight_of v held) (sight_of w (with_member s b held))
+    pub does-unnamed : (file : FileId) (i : ℕ) → m.named ≡ true → (IsTrue v.tells → named (v.content (ruj_file s) 0) ≢ m.tsn.number) → Does s (failed_at (stand_at held.members s)) (λ h g. Fails s (Bad file i) h g) (sight_of v held) (sight_of w (with_member s b held))
     does-unnamed file i noted another = does-fault (Bad file i) (λ e. let bad : Bad file i ≡ Failed = e in cc) (λ h shown f k is. another shown.tells ((is-journalling shown.ledger (sat h shown).stands).header noted))
       where
         sat : (h : Shelf) (shown : Shown v held h) → SitsAs v shown.ledger s m (h.seat s)

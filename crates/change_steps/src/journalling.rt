@@ -4,6 +4,7 @@ ghost use Rattle.line_store.specs.Seats.{IsMember};
 ghost use Rattle.line_store.specs.Sights.{Does, IsLess, MayAnswer, Steps, stepped_to};
 ghost use Rattle.line_store.specs.declared.answers.Stepped.TheVariants as stepped;
 ghost use Rattle.disk_store.specs.ChangeSteps.{Unjournalled};
+ghost use Rattle.disk_store.specs.OwnFiles.{WritesOwn};
 ghost use Rattle.disk_store.specs.Seats.{stand_at};
 ghost use Rattle.disk_store.specs.Shown.{sight_of};
 
@@ -26,7 +27,8 @@ pub(crate) fn journal_key<D: Disk>(
     ensures comes { Does s.number (stepped_to (stand_at held.old.members s.number) result)
         (Steps s.number result) (sight_of (D.view disk.old) held.old) (sight_of (D.view disk.new) held.new) }
     ensures less { result ≡ Ok stepped.More → IsLess s.number (sight_of (D.view disk.old) held.old) (sight_of (D.view disk.new) held.new) }
-    ensures goes_on { result ≡ Ok stepped.Astray → ⊥ }
+    ensures writes { WritesOwn (D.view disk.old) (D.view disk.new) }
+    ensures tables { held.new.tables ≡ held.old.tables }
 {
     held.sound();
     let member = held.member(s);

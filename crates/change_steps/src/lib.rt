@@ -9,4 +9,4 @@ pub use disk_store::{
     Ceiling, Held, MemberStage, ask, begin, begin_reading, change, commit, draw, give_back,
     learn_area, learn_line, prepare, room, steps_are_few, take_room,
 };
-pub use steps::{broken_step, change_step};
+pub use steps::change_step;

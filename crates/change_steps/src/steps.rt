@@ -5,6 +5,7 @@ ghost use Rattle.line_store.specs.Sights.{Does, IsLess, MayAnswer, Steps, steppe
 ghost use Rattle.line_store.specs.declared.answers.Stepped.TheVariants as stepped;
 ghost use Rattle.disk_store.specs.declared.member.MemberStage.TheVariants as stage;
 ghost use Rattle.disk_store.specs.ChangeSteps.{ThroughAt};
+ghost use Rattle.disk_store.specs.OwnFiles.{WritesOwn};
 ghost use Rattle.disk_store.specs.Seats.{IsAtStage, stand_at};
 ghost use Rattle.disk_store.specs.Shown.{sight_of};
 
@@ -19,8 +20,9 @@ use rdb_types::Session;
 fn end_change<D: Disk>(_disk: &D, held: &mut Held, s: Session)
     requires member { IsMember s.number }
     requires through { ThroughAt held.old.members s.number }
-    ensures { Does s.number (stepped_to (stand_at held.old.members s.number) (Ok stepped.Done))
+    ensures does { Does s.number (stepped_to (stand_at held.old.members s.number) (Ok stepped.Done))
         (Steps s.number (Ok stepped.Done)) (sight_of (D.view _disk.now) held.old) (sight_of (D.view _disk.now) held.new) }
+    ensures tables { held.new.tables ≡ held.old.tables }
 {
     held.sound();
     held.end_change(s);
@@ -34,7 +36,10 @@ pub fn change_step<D: Disk>(disk: &mut D, held: &mut Held, s: Session) -> Result
     ensures comes { Does s.number (stepped_to (stand_at held.old.members s.number) result)
         (Steps s.number result) (sight_of (D.view disk.old) held.old) (sight_of (D.view disk.new) held.new) }
     ensures less { result ≡ Ok stepped.More → IsLess s.number (sight_of (D.view disk.old) held.old) (sight_of (D.view disk.new) held.new) }
-    ensures goes_on { result ≡ Ok stepped.Astray → ⊥ }
+
+    // One slot at most is written, of the database's own files.
+    ensures writes { WritesOwn (D.view disk.old) (D.view disk.new) }
+    ensures tables { held.new.tables ≡ held.old.tables }
 {
     let member = held.member(s);
     let count = member.written.keys().len() as u32;
@@ -48,15 +53,4 @@ pub fn change_step<D: Disk>(disk: &mut D, held: &mut Held, s: Session) -> Result
     }
     end_change(disk, held, s);
     Ok(Stepped::Done)
-}
-
-/// A session whose change failed doesn't go on.
-pub fn broken_step<D: Disk>(_disk: &D, _held: &Held, s: Session) -> Stepped
-    requires broken { IsAtStage _held.now.members s.number stage.Broken }
-    ensures answers { MayAnswer (stand_at _held.now.members s.number) (Ok result) }
-    ensures comes { Does s.number (stepped_to (stand_at _held.now.members s.number) (Ok result))
-        (Steps s.number (Ok result)) (sight_of (D.view _disk.now) _held.now) (sight_of (D.view _disk.now) _held.now) }
-    ensures answer { result ≡ stepped.Astray }
-{
-    Stepped::Astray
 }

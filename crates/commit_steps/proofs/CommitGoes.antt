@@ -8,7 +8,7 @@ use Rattle.line_view.specs.declared.writes.Write.{Write}
 use Rattle.line_view.specs.Knowledge.{Lines}
 use Rattle.line_store.specs.declared.answers.Fault.{Fault}
 use Rattle.line_store.specs.declared.answers.Fault.TheVariants.{Failed, Bad}
-use Rattle.line_store.specs.Seats.{Seat, in_flight, committing}
+use Rattle.line_store.specs.Seats.{Seat, in_flight, committing, failed_at}
 use Rattle.line_store.specs.Shelves.{Shelf}
 use Rattle.line_store.specs.Calls.{Moves, GoesOn, Fails}
 use Rattle.line_store.specs.Sights.{bare, Does}
@@ -29,6 +29,7 @@ use Rattle.disk_store.specs.Shown.{Shown, sight_of}
 use Rattle.disk_store.specs.Sound.{IsSound}
 use Rattle.disk_store.specs.Commits.{AreOfPages, HasSome, KeepsCommits}
 use Rattle.commit_steps.specs.Turns.{group_for, turn_again, MakesTurn}
+use Rattle.disk_store.proofs.Failing.{does-failed, moves-failed}
 use Rattle.disk_store.proofs.Moving.{itself}
 use Rattle.disk_store.proofs.Stepping.{does-moves, becomes-member, space-same}
 use Rattle.commit_steps.proofs.Turning.{TurnedTo}
@@ -136,13 +137,13 @@ module _ (v w : View) (held : StoreMemory) (s : ℕ) (m : Member) (was : slice_g
         (λ h g start related moves. as-asked h g related.shown related.stands (subst (λ (x : Seat). Moves s x h g) (seat-same next h start related.seat) moves) (related.steps ∙ ap (λ st. steps_in st m) at) related.steps_behind related.shown.lines.faults related.faults_behind))
 
   -- it failed, and is made again
-  pub does-again : (fault : Fault) → (fault ≡ Failed → Rose v.faults w.faults) → ((file : FileId) (slot : ℕ) → fault ≡ Bad file slot → IsErrOf result (Bad file slot)) → Does s (stand_at held.members s) (λ h g. Fails s fault h g) (sight_of v held) (sight_of w (with_member s (at-turn (turn_again turn) m) held))
-  does-again fault rose told = does-turn (turn_again turn) (λ h shown stands. comes-again v w held s m was sound commits are h shown turn at result makes (subst (λ st. StageStands st v shown.ledger s m) at stands)) (λ h g. Fails s fault h g)
+  pub does-again : (fault : Fault) → (fault ≡ Failed → Rose v.faults w.faults) → ((file : FileId) (slot : ℕ) → fault ≡ Bad file slot → IsErrOf result (Bad file slot)) → Does s (failed_at (stand_at held.members s)) (λ h g. Fails s fault h g) (sight_of v held) (sight_of w (with_member s (at-turn (turn_again turn) m) held))
+  does-again fault rose told = does-failed held s m was (λ changes. cc) (λ h g. Fails s fault h g) (sight_of v held) (sight_of w (with_member s (at-turn (turn_again turn) m) held)) (does-turn (turn_again turn) (λ h shown stands. comes-again v w held s m was sound commits are h shown turn at result makes (subst (λ st. StageStands st v shown.ledger s m) at stands)) (λ h g. Fails s fault h g)
       (λ h g shown stands moves before behind faults faults-behind. record {
-        moves = moves;
+        moves = moves-failed v held s m was (λ changes. cc) h g shown moves;
         cause = cause-of fault h.clock g.clock v.faults w.faults rose
             (λ file slot is. absurd (none-refused v w held s m was sound commits are h shown turn at result makes (subst (λ st. StageStands st v shown.ledger s m) at stands) file slot (told file slot is))) faults faults-behind;
-      })
+      }))
 
 module _ (v w : View) (held : StoreMemory) (s : ℕ) (m : Member) (was : slice_get held.members s ≡ Some m) (turn next : CommitTurn) (at : m.stage ≡ stage.Committing turn) (sound : IsSound held) (commits : KeepsCommits held) (are : AreOfPages held.tables m.written.lines m.classes.items)
     (makes : MakesTurn v w turn (group_for held m) m.written.lines m.classes.items (Ok next)) (off : next ≢ Going Committed) where

@@ -29,6 +29,7 @@ use Rattle.disk_store.specs.declared.member.Member.{Member}
 use Rattle.disk_store.specs.declared.member.MemberStage.{MemberStage}
 use Rattle.disk_store.specs.declared.member.MemberStage.TheVariants as stage
 use Rattle.disk_store.specs.Memory.{StoreMemory, with_member, at_stage}
+use Rattle.disk_store.specs.OwnFiles.{WritesOwn}
 use Rattle.disk_store.specs.Standing.{StageStands}
 use Rattle.disk_store.specs.Shown.{TablesStand, Shown, pages_of}
 use Rattle.disk_store.specs.Sound.{IsSound}
@@ -71,6 +72,9 @@ module _ (held : StoreMemory) (s : ℕ) (m : Member) (was : slice_get held.membe
   beside-stands v w g h t x header apart got stays stands = view-free x.stage v w h t x header (beside-rests t x apart got) (stays-with v v g h t (λ file page is. refl) (λ classes lie. lie) stays x refl stands)
 
 -- ---- what the disk gives
+
+pub writes-own : (v w : View) → WritesAside v w → WritesOwn v w
+writes-own v w aside = record { file = aside.file; slot = aside.slot; own = aside.own; only = aside.only }
 
 pub slots-aside : (v w : View) → IsTrue v.tells → WritesAside v w → (followed : Followed) (limit : ℕ) (slots : SnapshotSlots) → HoldsAll v.content followed limit slots → HoldsAll w.content followed limit slots
 slots-aside v w t aside followed limit slots was = slots-stay v w (λ file slot. aside.only.content t (snap_file file) slot (λ same at. aside.not_snap (ap (λ f. f.kind) (sym same)))) followed limit slots was

@@ -1,5 +1,5 @@
 -- What a turn of a commit says of the disk.
-use Rattle.std.specs.Prelude.{ℕ, ◌≡◌, ◌≢◌, List, length, Some, Result, IfOk, IsErrOf, IsTrue, slice_get}
+use Rattle.std.specs.Prelude.{ℕ, ◌≡◌, ◌≢◌, List, length, Some, Result, IfOk, IsErrOf, IsTrue, slice_get, true}
 use Rattle.rdb_types.specs.declared.file.FileId.{FileId}
 use Rattle.rdb_types.specs.declared.file.FileKind.TheVariants.{Root, Snap}
 use Rattle.rdb_outside.specs.Causes.{Rose}
@@ -23,6 +23,7 @@ use Rattle.member_steps.specs.declared.committing.CommitTurn.TheVariants.{Enteri
 use Rattle.member_steps.specs.Turns.{IsFurtherTurn, IsNextTurn, plan_of, TurnFacts, NextFacts, ledger_behind, ledger_held}
 use Rattle.disk_store.specs.declared.member.Member.{Member}
 use Rattle.disk_store.specs.Memory.{StoreMemory}
+use Rattle.disk_store.specs.OwnFiles.{is_own}
 
 -- A commit that begins has no line.
 pub record WritesNone (ms : List Member) (s : ℕ) (turn : CommitTurn) : Type 0 where
@@ -44,10 +45,11 @@ group_for held m = record { slot = held.next.slot; number = held.next.number; ts
 
 -- ---- what a turn makes
 
--- the one slot that it writes, none of a snapshot file or of the root
+-- the one slot that it writes, of the database's own files, but none of a snapshot file or of the root
 pub record WritesAside (v w : View) : Type 0 where
   pub file : FileId
   pub slot : ℕ
+  pub own : is_own file.kind ≡ true
   pub not_snap : file.kind ≢ Snap
   pub not_root : file.kind ≢ Root
   pub only : OnlyWrites file slot v w

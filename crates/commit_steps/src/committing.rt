@@ -10,6 +10,8 @@ ghost use Rattle.member_steps.specs.declared.committing.CommitTurn.TheVariants.{
 ghost use Rattle.disk_store.specs.declared.member.Member.{Member as Sits};
 ghost use Rattle.disk_store.specs.declared.member.MemberStage.TheVariants as stage;
 ghost use Rattle.disk_store.specs.Commits.{HasSome};
+ghost use Rattle.disk_store.specs.Grown.{Grow};
+ghost use Rattle.disk_store.specs.OwnFiles.{WritesOwn};
 ghost use Rattle.disk_store.specs.Seats.{stand_at, IsAtStage};
 ghost use Rattle.disk_store.specs.Shown.{sight_of};
 ghost use Rattle.commit_steps.specs.Turns.{turn_again, group_for, WritesNone, MakesTurn};
@@ -141,6 +143,12 @@ pub fn commit_step<D: Disk>(disk: &mut D, held: &mut Held, s: Session) -> Result
     ensures comes { Does s.number (stepped_to (stand_at held.old.members s.number) result)
         (Steps s.number result) (sight_of (D.view disk.old) held.old) (sight_of (D.view disk.new) held.new) }
     ensures less { result ≡ Ok stepped.More → IsLess s.number (sight_of (D.view disk.old) held.old) (sight_of (D.view disk.new) held.new) }
+
+    // One slot at most is written, of the database's own files.
+    ensures writes { WritesOwn (D.view disk.old) (D.view disk.new) }
+
+    // Pages of areas stay theirs, of their classes.
+    ensures grows { Grow held.old.tables held.new.tables }
 {
     held.sound();
     held.keeps_commits();

@@ -19,6 +19,7 @@ use Rattle.disk_store.specs.Seats.{stand_at}
 use Rattle.disk_store.specs.Shown.{CeilingStands, Sits, Shown, sight_of}
 use Rattle.disk_store.proofs.Agreeing.{shown-opens}
 use Rattle.disk_store.proofs.Beside.{stays-there}
+use Rattle.disk_store.proofs.NoBackups.{copier-stays}
 use Rattle.disk_store.proofs.Passing.{Passes, tables-pass, slots-pass}
 use Rattle.disk_store.proofs.Stepping.{space-same}
 use Rattle.copies_beside.specs.Moved.{moved_on}
@@ -102,11 +103,13 @@ module _ (number : ℕ) (v w : View) (beside : IsBeside (backup_of number) v w) 
     mine = refl;
     others = λ t apart. refl;
     steps = λ t apart. refl;
+    copier = λ number. copier-stays (stand_at held.members s) (slice_get held.members s) (stand_at held.members s) s number refl;
     each = λ h shown. record {
       shelf = moved_on w held h;
       shown = shown_beside held h shown;
       related = moves held h shown s;
       lasts = lasts_with v w h (moved_on w held h) shown.lines.time (beside.leaves shown.tells) (may_stand v shown.ledger h shown.facts shown.lines) (may_stand w shown.ledger (moved_on w held h) (facts held h shown) (lines held h shown));
       opens = all-open v w h shown.lines.time (beside.leaves shown.tells) (shown-opens v held h shown) (shown-opens w held (moved_on w held h) (shown_beside held h shown));
+      backed = λ number t lines early apart was. was;
     };
   }

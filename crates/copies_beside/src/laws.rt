@@ -1,10 +1,12 @@
-// What a store shows behind calls that write a backup.
-ghost use Rattle.std.specs.Prelude.{ℕ};
+// What a store shows behind calls that write a backup, and what its own calls leave of backups.
+ghost use Rattle.std.specs.Prelude.{ℕ, IsTrue};
 ghost use Rattle.backup_steps.specs.backup_making.Making.{file_of};
+ghost use Rattle.backup_steps.specs.next_lines.partial_backup.Partial.{IsUntouched};
 ghost use Rattle.backup_steps.specs.Beside.{IsBeside};
 ghost use Rattle.line_store.specs.Calls.{Moves};
 ghost use Rattle.line_store.specs.Shelves.{Shelf};
 ghost use Rattle.line_store.specs.Sights.{Does};
+ghost use Rattle.disk_store.specs.OwnFiles.{WritesOwn};
 ghost use Rattle.disk_store.specs.Seats.{stand_at};
 ghost use Rattle.disk_store.specs.Shown.{Shown, sight_of};
 ghost use Rattle.copies_beside.specs.Moved.{moved_on};
@@ -23,4 +25,10 @@ pub fn a_store_is_shown_beside<D: Disk>(before: &D, after: &D, held: &Held)
         → Does session (stand_at held.now.members session)
         (λ h k. Moves session (h.seat session) h k)
         (sight_of (D.view before.now) held.now) (sight_of (D.view after.now) held.now) }
+{}
+
+/// Behind a call of the store, which writes one slot of the database's own files at most, the file of each backup is as it was.
+pub fn a_store_leaves_backups<D: Disk>(before: &D, after: &D)
+    ensures { IsTrue (D.view before.now).tells → WritesOwn (D.view before.now) (D.view after.now)
+        → (number : ℕ) → IsUntouched (file_of number) (D.view before.now) (D.view after.now) }
 {}

@@ -4,5 +4,5 @@
 mod laws;
 mod reading;
 
-pub use laws::a_store_is_shown_beside;
+pub use laws::{a_store_is_shown_beside, a_store_leaves_backups};
 pub use reading::a_reader_may_be_copied;

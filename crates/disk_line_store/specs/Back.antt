@@ -2,17 +2,27 @@
 use Rattle.std.specs.Prelude.{ℕ, ◌≡◌}
 use Rattle.rdb_outside.specs.Disk.{View}
 use Rattle.line_view.specs.Knowledge.{Lines}
+use Rattle.line_store.specs.Seats.{outside}
 use Rattle.line_store.specs.Shelves.{Shelf}
 use Rattle.line_store.specs.Sights.{Sight}
 use Rattle.store_shows.specs.Shows.{AllOpen, Leaves}
 use Rattle.change_steps.specs.disk_store.Memory.{StoreMemory}
 use Rattle.change_steps.specs.disk_store.Seats.{stand_at}
 use Rattle.change_steps.specs.disk_store.Shown.{Shown}
+use Rattle.store_copies.specs.Shown.{IsBackedUp}
 
--- What the store showed, it showed of this disk and of what its memory held, and what a crash leaves of the disk it left of the store.
+-- A shelf is shown of the disk, but for what sessions copied.
+pub record ShownBack (v : View) (held : StoreMemory) (h : Shelf) : Type 0 where
+  pub plain : Shelf
+  pub shown : Shown v held plain
+  pub clock : plain.clock ≡ h.clock
+  pub now : plain.now ≡ h.now
+
+-- What the store showed, it showed of this disk and of what its memory held, and what a crash leaves of the disk it left of the store. What was backed up is so of the disk.
 pub record IsBack (sight : Sight) (v : View) : Type 0 where
   pub held : StoreMemory
-  pub shows : (h : Shelf) → sight.shows h → Shown v held h
+  pub shows : (h : Shelf) → sight.shows h → ShownBack v held h
   pub left : (t : ℕ) (lines : Lines) → Leaves v t lines → sight.left t lines
   pub opens : (t : ℕ) → sight.opens t → AllOpen v t
-  pub stand : (s : ℕ) → sight.stand s ≡ stand_at held.members s
+  pub stand : (s : ℕ) → sight.stand s ≡ outside → stand_at held.members s ≡ outside
+  pub backed : (number t : ℕ) (lines : Lines) → sight.backed number t lines → IsBackedUp v number t lines

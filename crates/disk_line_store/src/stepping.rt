@@ -3,10 +3,12 @@ ghost use Rattle.std.specs.Prelude.{◌≡◌, Ok};
 ghost use Rattle.line_store.specs.declared.answers.Stepped.TheVariants as stepped;
 ghost use Rattle.line_store.specs.Seats.{IsMember, IsUnderWay};
 ghost use Rattle.line_store.specs.Sights.{Does, Steps, stepped_to, MayAnswer, IsLess};
+ghost use Rattle.change_steps.specs.disk_store.Grown.{Grow};
+ghost use Rattle.change_steps.specs.disk_store.OwnFiles.{WritesOwn};
 ghost use Rattle.change_steps.specs.disk_store.Seats.{stand_at, IsAtStage};
 ghost use Rattle.change_steps.specs.disk_store.Shown.{sight_of};
 
-use change_steps::{Ceiling, Held, MemberStage, ask, broken_step, change_step, draw};
+use change_steps::{Ceiling, Held, MemberStage, ask, change_step, draw};
 use commit_steps::commit_step;
 use line_store::{Fault, Stepped};
 use rdb_outside::Disk;
@@ -21,7 +23,7 @@ fn stage_of(held: &Held, s: Session) -> MemberStage
     held.member(s).stage
 }
 
-/// One step of what is under way for a session: one write or one barrier at most, and no memory. Of a transaction that can only die it answers that it goes astray.
+/// One step of what is under way for a session: one write or one barrier at most, and no memory.
 pub(crate) fn step<D: Disk>(disk: &mut D, held: &mut Held, s: Session) -> Result<Stepped, Fault>
     requires member { IsMember s.number }
     requires seat { IsUnderWay (stand_at held.old.members s.number) }
@@ -29,17 +31,23 @@ pub(crate) fn step<D: Disk>(disk: &mut D, held: &mut Held, s: Session) -> Result
     ensures comes { Does s.number (stepped_to (stand_at held.old.members s.number) result)
         (Steps s.number result) (sight_of (D.view disk.old) held.old) (sight_of (D.view disk.new) held.new) }
     ensures less { result ≡ Ok stepped.More → IsLess s.number (sight_of (D.view disk.old) held.old) (sight_of (D.view disk.new) held.new) }
+
+    // One slot at most is written, of the database's own files.
+    ensures writes { WritesOwn (D.view disk.old) (D.view disk.new) }
+
+    // Pages of areas stay theirs, of their classes.
+    ensures grows { Grow held.old.tables held.new.tables }
 {
     match stage_of(held, s) {
         MemberStage::Beginning(Ceiling::Asking) => ask(disk, held, s),
         MemberStage::Beginning(Ceiling::Raised) => draw(disk, held, s),
         MemberStage::Changing => change_step(disk, held, s),
-        MemberStage::Broken => Ok(broken_step(disk, held, s)),
         MemberStage::Committing(_) => commit_step(disk, held, s),
         MemberStage::RollingBack | MemberStage::Closing => put_away(disk, held, s),
         MemberStage::Dead { commits, recovery } => recover(disk, held, s, commits, recovery),
         MemberStage::Outside
         | MemberStage::Writing
+        | MemberStage::Broken
         | MemberStage::Prepared
         | MemberStage::Reading => unreachable!(),
     }

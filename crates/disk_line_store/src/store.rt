@@ -1,11 +1,12 @@
 // A store of lines on a disk, as sessions ask for it.
-ghost use Rattle.std.specs.Prelude.{◌≡◌, ◌↔◌, ◌<◌, ◌^◌, ℕ};
+ghost use Rattle.std.specs.Prelude.{◌≡◌, ◌↔◌, ◌<◌, ◌^◌, ℕ, None};
 ghost use Rattle.line_view.specs.Knowledge.{Lines};
 ghost use Rattle.line_store.specs.Seats.{outside};
 ghost use Rattle.line_store.specs.Shelves.{Shelf};
 ghost use Rattle.store_shows.specs.Shows.{Leaves};
 ghost use Rattle.change_steps.specs.disk_store.Seats.{stand_at, steps_at};
 ghost use Rattle.change_steps.specs.disk_store.Shown.{Shown};
+ghost use Rattle.store_copies.specs.Shown.{AreReaders};
 ghost use Rattle.disk_line_store.specs.Back.{IsBack};
 
 use crate::stepping::step;
@@ -20,13 +21,16 @@ use line_view::{Known, Write};
 use rdb_outside::Disk;
 use rdb_types::{Dbkey, Moment, NoMemory, Session};
 use recovery_steps::{die, end_reading, roll_back};
+use store_copies::{Copies, begin_copy, copy_step};
 
-/// A store of lines on a disk: the disk, and what is kept in memory beside it. What is left to do for a session is a number that a loop can count to.
+/// A store of lines on a disk: the disk, and what is kept in memory beside it, of the database and of the backups that sessions copy. What is left to do for a session is a number that a loop can count to, and who copies reads.
 #[derive(Drop)]
 pub struct DiskStore<D: Disk + Drop> {
     disk: D,
     held: Held,
+    copies: Copies,
     ghost few: { (s : ℕ) → steps_at held.members s < 2 ^ 64 },
+    ghost readers: { AreReaders held copies },
 }
 
 impl<D: Disk + Drop> DiskStore<D> {
@@ -37,9 +41,11 @@ impl<D: Disk + Drop> DiskStore<D> {
 
         // It shows what the disk and the memory do, and a crash leaves what one of the disk may leave.
         ensures shows { (h : Shelf) → (⟦<DiskStore<D> as LineStore>⟧.sight result).shows h ↔ Shown (D.view disk) held h }
+        ensures nobody { (n : ℕ) → (⟦<DiskStore<D> as LineStore>⟧.sight result).copier n ≡ None }
         ensures left { (t : ℕ) (lines : Lines) → (⟦<DiskStore<D> as LineStore>⟧.sight result).left t lines → Leaves (D.view disk) t lines }
     {
-        DiskStore { disk, held }
+        let copies = Copies::new();
+        DiskStore { disk, held, copies }
     }
 
     /// The disk, of which all calls are the store's.
@@ -56,19 +62,18 @@ impl<D: Disk + Drop> DiskStore<D> {
 }
 
 impl<D: Disk + Drop> LineStore for DiskStore<D> {
-    ghost use Rattle.std.proofs.Common.{sym};
-    ghost use Rattle.change_steps.specs.disk_store.Shown.{sight_of};
-    ghost use Rattle.disk_store.proofs.Agreeing.{agreeing, opening, standing};
+    ghost use Rattle.store_copies.specs.Shown.{copied_sight};
+    ghost use Rattle.store_copies.proofs.Sighted.{agreeing-with, counting-with, opening-with, standing-with};
 
-    ghost sight = { λ store. sight_of (D.view store.disk) store.held };
+    ghost sight = { λ store. copied_sight (D.view store.disk) store.held store.copies };
 
-    ghost agrees = { λ store. agreeing (D.view store.disk) store.held };
+    ghost agrees = { λ store. agreeing-with (D.view store.disk) store.held store.copies };
 
-    ghost counts = { λ store. record { same = λ h shown s. sym (shown.steps s); few = store.few } };
+    ghost counts = { λ store. counting-with (D.view store.disk) store.held store.copies store.few };
 
-    ghost stands = { λ store. standing (D.view store.disk) store.held };
+    ghost stands = { λ store. standing-with (D.view store.disk) store.held store.copies };
 
-    ghost opens = { λ store. opening (D.view store.disk) store.held };
+    ghost opens = { λ store. opening-with (D.view store.disk) store.held store.copies };
 
     fn begin(&mut self, s: Session) {
         let held = &mut self.held;
@@ -79,6 +84,13 @@ impl<D: Disk + Drop> LineStore for DiskStore<D> {
     fn begin_reading(&mut self, s: Session) -> Result<(), NoMemory> {
         let held = &mut self.held;
         let begun = begin_reading(&self.disk, held, s);
+        steps_are_few(held, s);
+        begun
+    }
+
+    fn begin_copy(&mut self, s: Session, number: u32) -> Result<(), NoMemory> {
+        let held = &mut self.held;
+        let begun = begin_copy(&self.disk, held, &mut self.copies, s, number);
         steps_are_few(held, s);
         begun
     }
@@ -156,10 +168,14 @@ impl<D: Disk + Drop> LineStore for DiskStore<D> {
     fn die(&mut self, s: Session) {
         let held = &mut self.held;
         die(&self.disk, held, s);
+        self.copies.leave(s);
         steps_are_few(held, s);
     }
 
     fn step(&mut self, s: Session) -> Result<Stepped, Fault> {
+        if self.copies.of(s).is_some() {
+            return copy_step(&mut self.disk, &self.held, &mut self.copies, s);
+        }
         let held = &mut self.held;
         let stepped = step(&mut self.disk, held, s);
         steps_are_few(held, s);

@@ -201,5 +201,6 @@ module _ (v : View) (held : StoreMemory) (s : ℕ) (m : Member) (was : slice_get
     mine = ap (λ x. bare (stand_of x)) here;
     others = λ t apart. ap (λ x. bare (stand_of x)) (beside t apart);
     steps = λ t apart. ap steps_of (beside t apart);
-    each = λ h shown. record { shelf = after h shown; shown = shown-behind h shown; related = moves h shown; lasts = record { since = λ t lines early is. inl is }; opens = λ t early was. was };
+    copier = λ number. refl;
+    each = λ h shown. record { shelf = after h shown; shown = shown-behind h shown; related = moves h shown; lasts = record { since = λ t lines early is. inl is }; opens = λ t early was. was; backed = λ number t lines early apart was. was };
   }

@@ -53,6 +53,9 @@ module _ (st : MemberStage) (ended : IsEnded st) where
   pub ended-plain : st ≢ stage.Reading
   ended-plain reads = elim ended [ inl is ↦ cc | inr is ↦ cc ]
 
+  pub ended-unchanging : st ≢ stage.Changing
+  ended-unchanging changes = elim ended [ inl is ↦ cc | inr is ↦ cc ]
+
   pub ended-rests : (v : View) (g : Ledger) (s : ℕ) (m : Member) → StageStands st v g s m → g.standing s ≡ resting
   ended-rests v g s m stands = elim ended [ inl is ↦ subst (λ x. StageStands x v g s m) is stands | inr is ↦ subst (λ x. StageStands x v g s m) is stands ]
 

@@ -1,8 +1,10 @@
 pub use Rattle.ledger_versions.proofs as of_ledger_versions
 pub mod Members
+pub mod OwnFiles
 pub mod AtMost
 pub mod Sound
 pub mod Readers
+pub mod NoBackups
 pub mod Moving
 pub mod Stages
 pub mod Beside
@@ -42,6 +44,7 @@ pub mod FirstSound
 pub mod Ordered
 pub mod LinesPut
 pub mod EverUsed
+pub mod Growing
 pub mod Unused
 pub mod Landed
 pub mod CommitsKept

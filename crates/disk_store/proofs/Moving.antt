@@ -22,11 +22,12 @@ use Rattle.disk_store.specs.declared.member.MemberStage.{MemberStage}
 use Rattle.disk_store.specs.declared.member.MemberStage.TheVariants as stage
 use Rattle.disk_store.specs.Memory.{StoreMemory, with_member, at_stage}
 use Rattle.disk_store.specs.Numbers.{kept_at}
-use Rattle.disk_store.specs.Seats.{seat_with, stand_of, steps_in, steps_of, steps_at}
+use Rattle.disk_store.specs.Seats.{seat_with, stand_of, stand_at, steps_in, steps_of, steps_at}
 use Rattle.disk_store.specs.Standing.{StageStands}
 use Rattle.disk_store.specs.Shown.{Sits, SitsAs, WaitsAs, IsReading, Shown, sight_of}
 use Rattle.disk_store.proofs.Members.{set-here, set-beside}
 use Rattle.disk_store.proofs.Kept.{kept-stays}
+use Rattle.disk_store.proofs.NoBackups.{copier-stays}
 use Rattle.disk_store.proofs.Readers.{reader-beside, readers-still, starts-still}
 
 true_from_T : (b : Bool) → T b → b ≡ true
@@ -176,11 +177,13 @@ module _ (v : View) (held : StoreMemory) (s : ℕ) (m : Member) (next : MemberSt
     mine = ap (λ x. bare (stand_of x)) here ∙ comes;
     others = λ t apart. ap (λ x. bare (stand_of x)) (beside t apart);
     steps = λ t apart. ap steps_of (beside t apart);
+    copier = λ number. copier-stays (stand_at held.members s) (Some (at_stage next m)) there s number comes;
     each = λ h shown. record {
       shelf = moved (sat h shown).start h;
       shown = shown-behind h shown;
       related = as-asked h (moved (sat h shown).start h) (sat h shown).start (sat h shown).is (moves (sat h shown).start h);
       lasts = record { since = λ t lines early is. inl is };
       opens = λ t early was. was;
+      backed = λ number t lines early apart was. was;
     };
   }

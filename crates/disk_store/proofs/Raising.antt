@@ -1,5 +1,5 @@
 -- A ceiling is raised: the root is written, and a barrier makes it stable.
-use Rattle.std.proofs.Common.{◌≡◌, ◌≤◌, ◌<◌, ◌+◌, ◌⊎◌, ⊎_elim, ℕ, IsTrue, List, [], Some, inl, inr, refl, sym, ap, subst, ◌∙◌, arith}
+use Rattle.std.proofs.Common.{◌≡◌, ◌≢◌, ◌≤◌, ◌<◌, ◌+◌, ◌⊎◌, ⊎_elim, ℕ, IsTrue, List, [], Some, inl, inr, refl, sym, ap, subst, ◌∙◌, arith}
 use Rattle.std.specs.Prelude.{◌-◌, ◌^◌, slice_get, slice_set}
 use Rattle.rdb_outside.specs.Disk.{View, Pending, LeftNow, OnlyReads, IsStable}
 use Rattle.rdb_outside.specs.Moments.{each_slot}
@@ -10,6 +10,7 @@ use Rattle.new_database.specs.Maker.{root_file}
 use Rattle.line_store.specs.Shelves.{Shelf}
 use Rattle.line_store.specs.Calls.{Moves, GoesOn, Fails}
 use Rattle.line_store.specs.declared.answers.Fault.TheVariants.{Bad}
+use Rattle.line_store.specs.Seats.{failed_at}
 use Rattle.line_store.specs.Sights.{bare, Does}
 use Rattle.line_store.proofs.InTurn.{does-nothing}
 use Rattle.line_moves.specs.Calls.{OnlyWrites}
@@ -31,7 +32,8 @@ use Rattle.disk_store.specs.Shown.{CeilingStands, Shown, sight_of}
 use Rattle.disk_store.proofs.Kept.{kept-set}
 use Rattle.disk_store.proofs.Stepping.{ComesTo, Becomes, does-apart, space-same}
 use Rattle.disk_store.proofs.Passing.{Passes, header-beside, header-read, headers-all, passes-none, passes-aside, passes-reads, none-leaves, reads-leave, tables-pass, slots-pass, reads-ceiling}
-use Rattle.disk_store.proofs.Failing.{KeepsIt}
+use Rattle.disk_store.proofs.Failing.{KeepsIt, does-failed, sits-failed}
+use Rattle.disk_store.proofs.NoBackups.{copier-stays}
 use Rattle.disk_store.proofs.Drawing.{MayDraw, Leads}
 use Rattle.disk_store.proofs.Beside.{SameHeader, stays-there}
 
@@ -98,6 +100,7 @@ does-none v w held s m was begins none R = record {
   mine = refl;
   others = λ t apart. refl;
   steps = λ t apart. refl;
+  copier = λ number. copier-stays (stand_at held.members s) (slice_get held.members s) (stand_at held.members s) s number refl;
   each = λ h shown. absurd (let kept = number-is-kept v held s m was begins h shown in omega (arith, kept, none));
 }
 
@@ -242,13 +245,14 @@ module _ (v w : View) (held : StoreMemory) (root : Root) (only : OnlyWrites root
     }
 
 -- the numbers are used up, and nothing changes
-pub does-refuse-now : (v : View) (held : StoreMemory) (s : ℕ) (file : _) (slot : ℕ) → 2 ^ 62 - 64 < held.numbers.ceiling → Does s (stand_at held.members s) (λ h g. Fails s (Bad file slot) h g) (sight_of v held) (sight_of v held)
-does-refuse-now v held s file slot spent = does-nothing s (λ h g. Fails s (Bad file slot) h g) (sight_of v held) (λ h shown. record {
+pub does-refuse-now : (v : View) (held : StoreMemory) (s : ℕ) (m : Member) → slice_get held.members s ≡ Some m → m.stage ≢ stage.Changing → (file : _) (slot : ℕ) → 2 ^ 62 - 64 < held.numbers.ceiling
+    → Does s (failed_at (stand_at held.members s)) (λ h g. Fails s (Bad file slot) h g) (sight_of v held) (sight_of v held)
+does-refuse-now v held s m was other file slot spent = does-failed held s m was other (λ h g. Fails s (Bad file slot) h g) (sight_of v held) (sight_of v held) (does-nothing s (λ h g. Fails s (Bad file slot) h g) (sight_of v held) (λ h shown. record {
   moves = record {
     now = refl;
-    mine = refl;
+    mine = sym (sits-failed v held s m was other h shown);
     others = record { seat = λ t apart. refl; steps = λ t apart. refl; later = record { later = omega arith; no_fewer = omega arith } };
     space = space-same h.space;
   };
   cause = subst (λ (n : ℕ). 2 ^ 62 - 64 < n) (sym shown.promised) spent;
-})
+}))

@@ -1,5 +1,5 @@
 -- A call that only reads the disk: whoever makes it, nothing changes but time and faults.
-use Rattle.std.proofs.Common.{◌≡◌, ◌≤◌, ◌∙◌, ℕ, Option, Some, None, Ok, Err, inl, refl, sym, ap, subst}
+use Rattle.std.proofs.Common.{◌≡◌, ◌≤◌, ◌∙◌, ℕ, [], Option, Some, None, Ok, Err, inl, refl, sym, ap, subst}
 use Rattle.std.specs.Prelude.{slice_get}
 use Rattle.rdb_types.specs.declared.file.FileId.{FileId}
 use Rattle.rdb_outside.specs.Causes.{Rose}
@@ -9,7 +9,7 @@ use Rattle.line_store.specs.declared.answers.Fault.TheVariants.{Failed, Bad}
 use Rattle.line_store.specs.declared.answers.Progress.TheVariants.{Done}
 use Rattle.line_store.specs.declared.answers.ReadStop.{ReadStop}
 use Rattle.line_store.specs.declared.answers.ReadStop.TheVariants as read
-use Rattle.line_store.specs.Seats.{Seat}
+use Rattle.line_store.specs.Seats.{Seat, IsAtRest, failed_at}
 use Rattle.line_store.specs.Shelves.{Shelf}
 use Rattle.line_store.specs.Calls.{Moves}
 use Rattle.line_store.specs.Sights.{Does, Reads}
@@ -22,10 +22,12 @@ use Rattle.member_rooms.proofs.of_store_shows.Standing.{may_stand, lasts_with, a
 use Rattle.disk_store.proofs.Agreeing.{shown-opens}
 use Rattle.disk_store.specs.declared.member.Member.{Member}
 use Rattle.disk_store.specs.Memory.{StoreMemory}
-use Rattle.disk_store.specs.Seats.{stand_at}
+use Rattle.disk_store.specs.Seats.{seat_with, stand_of, stand_at}
 use Rattle.disk_store.specs.Shown.{Sits, Shown, sight_of}
 use Rattle.disk_store.proofs.Beside.{stays-there}
 use Rattle.disk_store.proofs.Passing.{Passes, header-read, passes-reads, reads-leave, reads-ceiling, tables-pass, slots-pass}
+use Rattle.disk_store.proofs.Failing.{sits-failed}
+use Rattle.disk_store.proofs.NoBackups.{copier-stays}
 use Rattle.disk_store.proofs.Stepping.{space-same}
 
 module _ (v w : View) (held : StoreMemory) (s : ℕ) (reads : OnlyReads v w) where
@@ -94,12 +96,14 @@ module _ (v w : View) (held : StoreMemory) (s : ℕ) (reads : OnlyReads v w) whe
     mine = refl;
     others = λ t apart. refl;
     steps = λ t apart. refl;
+    copier = λ number. copier-stays (stand_at held.members s) (slice_get held.members s) (stand_at held.members s) s number refl;
     each = λ h shown. record {
       shelf = after h shown;
       shown = shown-after h shown;
       related = as-asked h (after h shown) shown (moves h shown) shown.lines.faults refl;
       lasts = lasts_with v w h (after h shown) shown.lines.time (reads-leave v w reads shown.tells) (may_stand v shown.ledger h shown.facts shown.lines) (may_stand w shown.ledger (after h shown) (facts h shown) (lines-stand h shown));
       opens = all-open v w h shown.lines.time (reads-leave v w reads shown.tells) (shown-opens v held h shown) (shown-opens w held (after h shown) (shown-after h shown));
+      backed = λ number t lines early apart was. was;
     };
   }
 
@@ -109,12 +113,20 @@ module _ (v w : View) (held : StoreMemory) (s : ℕ) (reads : OnlyReads v w) whe
   pub reads-no-memory : Does s (stand_at held.members s) (Reads s (Err read.NoMemory)) (sight_of v held) (sight_of w held)
   reads-no-memory = does-look (Reads s (Err read.NoMemory)) (λ h k shown moves before behind. moves)
 
-  pub reads-fault : (fault : Fault) → (fault ≡ Failed → Rose v.faults w.faults) → ((h : Shelf) → Shown v held h → (file : FileId) (slot : ℕ) → fault ≡ Bad file slot → ⊥) → Does s (stand_at held.members s) (Reads s (Err (read.Fault fault))) (sight_of v held) (sight_of w held)
-  reads-fault fault rose good = does-look (Reads s (Err (read.Fault fault))) (λ h k shown moves before behind. record {
-    moves = moves;
+  -- who rests stays in its seat where a call fails
+  rested : IsAtRest (stand_at held.members s) → (h : Shelf) → Shown v held h → failed_at (h.seat s) ≡ h.seat s
+  rested rests h shown = by (slice_get held.members s) refl (shown.seats s) rests
+    where
+      by : (x : Option Member) → slice_get held.members s ≡ x → Sits v shown.ledger s x (h.seat s) → IsAtRest (stand_of x) → failed_at (h.seat s) ≡ h.seat s
+      by None is sits quiet = ap failed_at sits.0 ∙ sym sits.0
+      by (Some m) is sits quiet = sits-failed v held s m is (λ changes. subst (λ st. IsAtRest (seat_with st [] [])) changes quiet) h shown
+
+  pub reads-fault : IsAtRest (stand_at held.members s) → (fault : Fault) → (fault ≡ Failed → Rose v.faults w.faults) → ((h : Shelf) → Shown v held h → (file : FileId) (slot : ℕ) → fault ≡ Bad file slot → ⊥) → Does s (stand_at held.members s) (Reads s (Err (read.Fault fault))) (sight_of v held) (sight_of w held)
+  reads-fault rests fault rose good = does-look (Reads s (Err (read.Fault fault))) (λ h k shown moves before behind. record {
+    moves = subst (λ (seat : Seat). Moves s seat h k) (sym (rested rests h shown)) moves;
     cause = cause-of fault h.clock k.clock v.faults w.faults rose (λ file slot is. absurd (good h shown file slot is)) before behind;
   })
 
-  pub reads-stop : (stop : ReadStop) → (stop ≡ read.Fault Failed → Rose v.faults w.faults) → ((h : Shelf) → Shown v held h → (file : FileId) (slot : ℕ) → stop ≡ read.Fault (Bad file slot) → ⊥) → Does s (stand_at held.members s) (Reads s (Err stop)) (sight_of v held) (sight_of w held)
-  reads-stop read.NoMemory rose good = reads-no-memory
-  reads-stop (read.Fault fault) rose good = reads-fault fault (λ is. rose (ap (λ (x : Fault). read.Fault x) is)) (λ h shown file slot is. good h shown file slot (ap (λ (x : Fault). read.Fault x) is))
+  pub reads-stop : IsAtRest (stand_at held.members s) → (stop : ReadStop) → (stop ≡ read.Fault Failed → Rose v.faults w.faults) → ((h : Shelf) → Shown v held h → (file : FileId) (slot : ℕ) → stop ≡ read.Fault (Bad file slot) → ⊥) → Does s (stand_at held.members s) (Reads s (Err stop)) (sight_of v held) (sight_of w held)
+  reads-stop rests read.NoMemory rose good = reads-no-memory
+  reads-stop rests (read.Fault fault) rose good = reads-fault rests fault (λ is. rose (ap (λ (x : Fault). read.Fault x) is)) (λ h shown file slot is. good h shown file slot (ap (λ (x : Fault). read.Fault x) is))

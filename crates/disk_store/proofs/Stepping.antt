@@ -29,12 +29,13 @@ use Rattle.disk_store.specs.declared.member.MemberStage.TheVariants as stage
 use Rattle.disk_store.specs.declared.held.Numbers.{Numbers}
 use Rattle.disk_store.specs.Memory.{StoreMemory, with_member}
 use Rattle.disk_store.specs.Numbers.{kept_in}
-use Rattle.disk_store.specs.Seats.{seat_with, stand_of, steps_in, steps_of, steps_at}
+use Rattle.disk_store.specs.Seats.{seat_with, stand_of, stand_at, steps_in, steps_of, steps_at}
 use Rattle.disk_store.specs.Standing.{StageStands}
 use Rattle.disk_store.specs.Shown.{Sits, SitsAs, NumbersStand, TablesStand, WaitPushed, WaitsAs, IsReading, AreUnused, HaveStarts, SpaceStands, Shown, sight_of}
 use Rattle.disk_store.proofs.Members.{set-here, set-beside, get-within}
 use Rattle.disk_store.proofs.Readers.{reader-beside, readers-still, starts-still}
 use Rattle.disk_store.proofs.Moving.{itself}
+use Rattle.disk_store.proofs.NoBackups.{copier-stays}
 
 -- what a step comes to, beside a course and the lines that wait
 pub record ComesTo (v w : View) (behind : StoreMemory) (s : ℕ) (n : Member) (g : Ledger) (course : Course) (waiting : Waiting) : Type 0 where
@@ -232,6 +233,7 @@ module _ (v w : View) (held behind : StoreMemory) (s : ℕ) (m n : Member) (was 
       mine = ap (λ x. bare (stand_of x)) here ∙ arrives;
       others = λ t apart. ap (λ x. bare (stand_of x)) (beside t apart);
       steps = λ t apart. ap steps_of (beside t apart);
+      copier = λ number. copier-stays (stand_at held.members s) (Some n) there s number arrives;
       each = λ h shown. record {
         shelf = shelf h shown;
         shown = shown-behind h shown (flight h shown);
@@ -255,6 +257,7 @@ module _ (v w : View) (held behind : StoreMemory) (s : ℕ) (m n : Member) (was 
         });
         lasts = shelf-lasts h shown (flight h shown);
         opens = all-open v w h shown.lines.time (leaves shown.tells) (shown-opens v held h shown) (shown-opens w behind (shelf h shown) (shown-behind h shown (flight h shown)));
+        backed = λ number t lines early apart was. was;
       };
     }
 

@@ -1,5 +1,6 @@
 -- What is shown behind a page that is taken.
 use Rattle.std.proofs.Common.{◌≡◌, ◌==◌, ℕ, Bool, true, false, not, length, inl, refl, sym, ap, subst, ◌∙◌, arith}
+use Rattle.std.specs.Prelude.{slice_get}
 use Rattle.std.proofs.lemmas.Bool.{eqb-true, eqb-false}
 use Rattle.rdb_types.specs.declared.keys.Dbkey.{Dbkey}
 use Rattle.rdb_page.specs.Page.{IsOwner}
@@ -19,6 +20,7 @@ use Rattle.disk_store.specs.Seats.{stand_at}
 use Rattle.disk_store.specs.Shown.{pages_of, TablesStand, HaveStarts, Shown, sight_of}
 use Rattle.disk_store.specs.Taken.{TakesIn}
 use Rattle.disk_store.proofs.EverUsed.{takes-still}
+use Rattle.disk_store.proofs.NoBackups.{copier-stays}
 use Rattle.disk_store.proofs.Unused.{unused-still}
 
 -- nothing changes
@@ -27,7 +29,8 @@ stays v held s = record {
   mine = refl;
   others = λ t apart. refl;
   steps = λ t apart. refl;
-  each = λ h shown. record { shelf = h; shown = shown; related = refl; lasts = record { since = λ t lines early is. inl is }; opens = λ t early was. was };
+  copier = λ number. copier-stays (stand_at held.members s) (slice_get held.members s) (stand_at held.members s) s number refl;
+  each = λ h shown. record { shelf = h; shown = shown; related = refl; lasts = record { since = λ t lines early is. inl is }; opens = λ t early was. was; backed = λ number t lines early apart was. was };
 }
 
 module _ (v : View) (held : StoreMemory) (s file class : ℕ) (key : Dbkey) (owner : IsOwner file key.area) where
@@ -41,6 +44,7 @@ module _ (v : View) (held : StoreMemory) (s file class : ℕ) (key : Dbkey) (own
     mine = refl;
     others = λ t apart. refl;
     steps = λ t apart. refl;
+    copier = λ number. copier-stays (stand_at held.members s) (slice_get held.members s) (stand_at held.members s) s number refl;
     each = λ h shown. record {
       shelf = h;
       shown = shown;
@@ -55,6 +59,7 @@ module _ (v : View) (held : StoreMemory) (s file class : ℕ) (key : Dbkey) (own
       };
       lasts = record { since = λ t lines early is. inl is };
       opens = λ t early was. was;
+      backed = λ number t lines early apart was. was;
     };
   }
 
@@ -120,6 +125,7 @@ module _ (v : View) (held : StoreMemory) (s file class : ℕ) (key : Dbkey) (own
       mine = refl;
       others = λ t apart. refl;
       steps = λ t apart. refl;
+      copier = λ number. copier-stays (stand_at held.members s) (slice_get held.members s) (stand_at held.members s) s number refl;
       each = λ h shown. record {
         shelf = behind h;
         shown = shown-behind h shown;
@@ -134,5 +140,6 @@ module _ (v : View) (held : StoreMemory) (s file class : ℕ) (key : Dbkey) (own
         };
         lasts = record { since = λ t lines early is. inl is };
         opens = λ t early was. was;
+        backed = λ number t lines early apart was. was;
       };
     }

@@ -11,8 +11,11 @@ pub mod Preparing
 pub mod Dying
 pub mod BeforeImages
 pub mod Taken
+pub mod Grown
+pub mod Classed
 pub mod Changing
 pub mod ChangeSteps
 pub mod Giving
 pub mod Readers
 pub mod Opening
+pub mod OwnFiles

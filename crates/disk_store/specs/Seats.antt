@@ -5,7 +5,7 @@ use Rattle.line_view.specs.Knowledge.{Lines}
 use Rattle.line_seat.specs.declared.commit.CommitStage.TheVariants.{Changing as PagesChanging, Imaging, Gathering, Sealing, Landing, Committed}
 use Rattle.member_rooms.specs.member_steps.declared.committing.CommitTurn.{CommitTurn}
 use Rattle.member_rooms.specs.member_steps.declared.committing.CommitTurn.TheVariants.{Entering, Securing, Going}
-use Rattle.line_store.specs.Seats.{Seat, outside, beginning, writing, changing, prepared, committing, rolling_back, closing, reading, dead}
+use Rattle.line_store.specs.Seats.{Seat, outside, beginning, writing, changing, broken, prepared, committing, rolling_back, closing, reading, dead}
 use Rattle.disk_store.specs.declared.member.Member.{Member}
 use Rattle.disk_store.specs.declared.member.Ceiling.{Ceiling}
 use Rattle.disk_store.specs.declared.member.Ceiling.TheVariants.{Asking, Raised}
@@ -20,7 +20,7 @@ seat_with stage.Outside ws start = outside
 seat_with (stage.Beginning ceiling) ws start = beginning
 seat_with stage.Writing ws start = writing ws
 seat_with stage.Changing ws start = changing ws
-seat_with stage.Broken ws start = changing ws
+seat_with stage.Broken ws start = broken ws
 seat_with stage.Prepared ws start = prepared ws
 seat_with (stage.Committing turn) ws start = committing ws
 seat_with stage.RollingBack ws start = rolling_back ws

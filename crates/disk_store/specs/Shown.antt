@@ -180,7 +180,7 @@ pub record Shown (v : View) (held : StoreMemory) (h : Shelf) : Type 0 where
   pub versions : VersionsStand v ledger held h
   pub space : SpaceStands held h.space
 
--- what a store on a disk shows, of its disk and its memory
+-- What a store on a disk shows of its database, of its disk and its memory. It has no backups here: who copies them shows them.
 abbrev pub sight_of : View → StoreMemory → Sight
 sight_of v held = record {
   shows = Shown v held;
@@ -188,4 +188,6 @@ sight_of v held = record {
   steps = steps_at held.members;
   left = Leaves v;
   opens = AllOpen v;
+  copier = λ number. None;
+  backed = λ number t lines. ⊥;
 }

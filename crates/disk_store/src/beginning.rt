@@ -11,6 +11,7 @@ ghost use Rattle.disk_store.specs.declared.member.Member.{Member as Sits};
 ghost use Rattle.disk_store.specs.declared.member.MemberStage.TheVariants as stage;
 ghost use Rattle.disk_store.specs.Memory.{with_number};
 ghost use Rattle.disk_store.specs.Numbers.{kept_at, kept_in, with_settled, with_raised};
+ghost use Rattle.disk_store.specs.OwnFiles.{WritesOwn};
 ghost use Rattle.disk_store.specs.Seats.{stand_at, IsAtStage};
 ghost use Rattle.disk_store.specs.Shown.{Shown, sight_of};
 
@@ -109,6 +110,10 @@ pub fn ask<D: Disk>(disk: &mut D, held: &mut Held, s: Session) -> Result<Stepped
         (Steps s.number result) (sight_of (D.view disk.old) held.old) (sight_of (D.view disk.new) held.new) }
     ensures less { result ≡ Ok stepped.More → IsLess s.number (sight_of (D.view disk.old) held.old) (sight_of (D.view disk.new) held.new) }
     ensures used_up { (file : File) (slot : ℕ) → IsErrOf result (Fault.Bad file slot) → 2 ^ 62 < held.old.numbers.written + 64 }
+
+    // One slot at most is written, of the database's own files.
+    ensures writes { WritesOwn (D.view disk.old) (D.view disk.new) }
+    ensures tables { held.new.tables ≡ held.old.tables }
 {
     let free = held.numbers.ceiling.saturating_sub(held.numbers.next);
     if held.kept() < free {
@@ -141,6 +146,10 @@ pub fn draw<D: Disk>(disk: &mut D, held: &mut Held, s: Session) -> Result<Steppe
     // The number that was kept is there.
     ensures kept { (file : File) (slot : ℕ) → IsErrOf result (Fault.Bad file slot)
         → (h : Shelf) → Shown (D.view disk.old) held.old h → ⊥ }
+
+    // One slot at most is written, of the database's own files.
+    ensures writes { WritesOwn (D.view disk.old) (D.view disk.new) }
+    ensures tables { held.new.tables ≡ held.old.tables }
 {
     let Ok(()) = settle(disk) else {
         return Err(Fault::Failed);

@@ -241,6 +241,7 @@ pub fn change<D: Disk>(
     ensures ok { OnOk result (Does s.number (changing []) (Changes s.number writes.now) (sight_of (D.view _disk.now) held.old) (sight_of (D.view _disk.now) held.new)) }
     ensures err { OnErr result (Stays s.number (sight_of (D.view _disk.now) held.old) (sight_of (D.view _disk.now) held.new)) }
     ensures cause { IfErr result (λ stop. (h : Shelf) → Shown (D.view _disk.now) held.old h → MayStopChange h s.number writes.now stop) }
+    ensures tables { held.new.tables ≡ held.old.tables }
 {
     held.sound();
     if let Some(key) = held.unfit(s, writes) {

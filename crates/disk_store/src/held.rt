@@ -91,6 +91,13 @@ impl Held {
         self.limits
     }
 
+    /// The pages of the area files.
+    pub fn tables(&self) -> &Tables
+        ensures { result.now ≡ self.now.tables }
+    {
+        &self.tables
+    }
+
     /// A session's member.
     pub fn member(&self, s: Session) -> &Member
         requires { IsMember s.number }

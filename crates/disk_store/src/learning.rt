@@ -1,5 +1,6 @@
 // What a session comes to know of lines.
 ghost use Rattle.std.specs.Prelude.{◌≡◌, Ok};
+ghost use Rattle.rdb_outside.specs.Disk.{OnlyReads};
 ghost use Rattle.line_view.specs.Knowledge.{IsInOrder, Agrees as AgreesWith};
 ghost use Rattle.line_view.specs.Held.{knows};
 ghost use Rattle.line_store.specs.declared.answers.Progress.TheVariants.{Done, More};
@@ -35,6 +36,9 @@ pub fn learn_line<D: Disk>(
     ensures read { Does s.number (stand_at held.now.members s.number) (Reads s.number result)
         (sight_of (D.view disk.old) held.now) (sight_of (D.view disk.new) held.now) }
     ensures less { result ≡ Ok More → IsLess s.number (sight_of (D.view disk.old) held.now) (sight_of (D.view disk.new) held.now) }
+
+    // Nothing is written.
+    ensures only_reads { OnlyReads (D.view disk.old) (D.view disk.new) }
 {
     let image = match line_seen(disk, held, s, key) {
         Ok(image) => image,
@@ -64,6 +68,9 @@ pub fn learn_area<D: Disk>(
     ensures read { Does s.number (stand_at held.now.members s.number) (Reads s.number result)
         (sight_of (D.view disk.old) held.now) (sight_of (D.view disk.new) held.now) }
     ensures less { result ≡ Ok More → IsLess s.number (sight_of (D.view disk.old) held.now) (sight_of (D.view disk.new) held.now) }
+
+    // Nothing is written.
+    ensures only_reads { OnlyReads (D.view disk.old) (D.view disk.new) }
 {
     let found = match area_seen(disk, held, s, area) {
         Ok(found) => found,

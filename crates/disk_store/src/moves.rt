@@ -14,7 +14,8 @@ use rdb_types::Session;
 pub fn begin<D: Disk>(_disk: &D, held: &mut Held, s: Session)
     requires member { IsMember s.number }
     requires outside { stand_at held.old.members s.number ≡ outside }
-    ensures { Does s.number beginning (Moves s.number beginning) (sight_of (D.view _disk.now) held.old) (sight_of (D.view _disk.now) held.new) }
+    ensures does { Does s.number beginning (Moves s.number beginning) (sight_of (D.view _disk.now) held.old) (sight_of (D.view _disk.now) held.new) }
+    ensures tables { held.new.tables ≡ held.old.tables }
 {
     held.set_stage(s, MemberStage::Beginning(Ceiling::Asking));
 }
@@ -23,7 +24,8 @@ pub fn begin<D: Disk>(_disk: &D, held: &mut Held, s: Session)
 pub fn give_back<D: Disk>(_disk: &D, held: &mut Held, s: Session)
     requires member { IsMember s.number }
     requires prepared { IsPrepared (stand_at held.old.members s.number) }
-    ensures { Does s.number (writing []) (GivesBack s.number) (sight_of (D.view _disk.now) held.old) (sight_of (D.view _disk.now) held.new) }
+    ensures does { Does s.number (writing []) (GivesBack s.number) (sight_of (D.view _disk.now) held.old) (sight_of (D.view _disk.now) held.new) }
+    ensures tables { held.new.tables ≡ held.old.tables }
 {
     held.set_stage(s, MemberStage::Writing);
 }
@@ -33,7 +35,8 @@ pub fn commit<D: Disk>(_disk: &D, held: &mut Held, s: Session)
     requires member { IsMember s.number }
     requires prepared { IsPrepared (stand_at held.old.members s.number) }
     requires alone { StandsAlone s.number (sight_of (D.view _disk.now) held.old) }
-    ensures { Does s.number (committing []) (BeginsCommit s.number) (sight_of (D.view _disk.now) held.old) (sight_of (D.view _disk.now) held.new) }
+    ensures does { Does s.number (committing []) (BeginsCommit s.number) (sight_of (D.view _disk.now) held.old) (sight_of (D.view _disk.now) held.new) }
+    ensures tables { held.new.tables ≡ held.old.tables }
 {
     held.begin_commit(s);
 }

@@ -72,6 +72,7 @@ pub fn prepare<D: Disk>(_disk: &D, held: &mut Held, s: Session) -> Result<(), Co
     ensures ok { OnOk result (Does s.number (prepared []) (Prepares s.number) (sight_of (D.view _disk.now) held.old) (sight_of (D.view _disk.now) held.new)) }
     ensures err { OnErr result (Stays s.number (sight_of (D.view _disk.now) held.old) (sight_of (D.view _disk.now) held.new)) }
     ensures cause { IfErr result (λ stop. (h : Shelf) → Shown (D.view _disk.now) held.old h → MayStopCommit h s.number stop) }
+    ensures tables { held.new.tables ≡ held.old.tables }
 {
     if held.has_room(s) {
         let Ok(classes) = held.classes_of(s) else {

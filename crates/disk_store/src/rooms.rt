@@ -10,6 +10,7 @@ ghost use Rattle.stable_lines.specs.Slots.{IsAreaFile};
 ghost use Rattle.member_rooms.specs.Classes.{IsClassOf, HasNoOwned};
 ghost use Rattle.disk_store.specs.declared.member.Member.{Member as Sits};
 ghost use Rattle.disk_store.specs.declared.held.Tables.{Tables as Kept};
+ghost use Rattle.disk_store.specs.Grown.{Grow};
 ghost use Rattle.disk_store.specs.Memory.{with_tables};
 ghost use Rattle.disk_store.specs.Seats.{stand_at};
 ghost use Rattle.disk_store.specs.Shown.{pages_of, Shown, sight_of};
@@ -129,6 +130,9 @@ pub fn take_room<D: Disk>(
 
     // No session is another than it was, whoever takes the page.
     ensures members { held.new.members ≡ held.old.members }
+
+    // Pages of areas stay theirs, of their classes.
+    ensures grows { Grow held.old.tables held.new.tables }
 {
     let Some(file) = storage_area(key.area) else {
         unreachable!()

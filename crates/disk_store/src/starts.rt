@@ -81,6 +81,7 @@ pub fn begin_reading<D: Disk>(_disk: &D, held: &mut Held, s: Session) -> Result<
     requires outside { stand_at held.old.members s.number ≡ outside }
     ensures ok { OnOk result (Does s.number (reading []) (BeginsReading s.number) (sight_of (D.view _disk.now) held.old) (sight_of (D.view _disk.now) held.new)) }
     ensures err { OnErr result (Stays s.number (sight_of (D.view _disk.now) held.old) (sight_of (D.view _disk.now) held.new)) }
+    ensures tables { held.new.tables ≡ held.old.tables }
 {
     let Ok(active) = going(held.alloc, &held.members) else {
         return Err(NoMemory {});
@@ -98,6 +99,7 @@ pub fn leave_reading<D: Disk>(_disk: &D, held: &mut Held, s: Session)
     requires reader { IsReader (stand_at held.old.members s.number) }
     ensures comes { Does s.number outside (Moves s.number outside) (sight_of (D.view _disk.now) held.old) (sight_of (D.view _disk.now) held.new) }
     ensures outside { IsAtStage held.new.members s.number Outside }
+    ensures tables { held.new.tables ≡ held.old.tables }
 {
     let none = Reader::new(Tsn { number: 0 }, Vec::new(held.alloc));
     held.keep_start(s, MemberStage::Outside, none);

@@ -1,10 +1,9 @@
 -- Items and events may cross threads. Expressions and actions are recursive types, whose laws stand with their knots; a search does each
 -- of them anew at every use and comes to its end, so the parts are shown one by one here.
-use denote.Param.Send.{IsSend, sendable, recorded_send, enum_send, struct_send, view_send}
+use denote.Param.Send.{IsSend, sendable, recorded_send, enum_send, struct_send}
 use denote.Builtin as Builtin
 use denote.Enum.Enum.{Enum}
 use denote.Enum.Declared as E
-use denote.RattleType.{RattleType}
 use denote.Struct.Declared as S
 use denote.Struct.Struct.{Struct}
 use Rattle.std.proofs.Crossing.{crosses}
@@ -29,6 +28,7 @@ use Rattle.rdb_types.proofs.session.Moment.TheSendSync as moment
 use Rattle.rdb_types.proofs.session.Cause.TheSendSync as cause
 use Rattle.rdb_types.proofs.node.Node.TheSendSync as node
 use Rattle.vms_queues.proofs.lock_mode.Mode.TheSendSync as mode
+use Rattle.rdo_ast.proofs.backup.BackupNumber.TheSendSync as backup_number
 use Rattle.rdo_ast.proofs.reply.Standing.TheSendSync as standing
 use Rattle.rdo_ast.proofs.reply.Reply.TheSendSync as reply
 use Rattle.rdo_ast.proofs.syntax.Expression.TheLaws.TheKnot as expressions
@@ -90,12 +90,15 @@ statement_send = enum_send (E.shape Statement.the_type) (
           (
             tt,
             (
-              (action_send, tt),
+              (backup_number.the_send, tt),
               (
-                (names_send, (field_type.the_field_send, tt)),
+                (action_send, tt),
                 (
-                  (names_send, (items.the_send _ field_definition.the_send, tt)),
-                  ((index_definition.the_field_send, tt), ((names_send, tt), ((names_send, tt), tt))),
+                  (names_send, (field_type.the_field_send, tt)),
+                  (
+                    (names_send, (items.the_send _ field_definition.the_send, tt)),
+                    ((index_definition.the_field_send, tt), ((names_send, tt), ((names_send, tt), tt))),
+                  ),
                 ),
               ),
             ),

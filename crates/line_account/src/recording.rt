@@ -1,8 +1,7 @@
 //! The events of what happened in a step.
 ghost use Rattle.std.specs.Prelude.{◌≡◌, ◌≤◌, ◌<◌, ◌+◌, ◌++◌, ◌∷◌, [], length, map, Ok, OnOk};
 ghost use Rattle.std.specs.Vec.{vec_len, vec_capacity};
-ghost use Rattle.rdo_ast.specs.Tree.{said as said_command};
-ghost use Rattle.rdo_ast.specs.Views.{command_of};
+ghost use Rattle.rdo_ast.specs.Views.{uttered_of};
 ghost use Rattle.rdb_account.specs.Events.{event_of, Died, Said};
 ghost use Rattle.stage_steps.specs.Happenings.{events_of, said_by, asked_by};
 ghost use Rattle.stage_steps.specs.Notices.{demoted_by};
@@ -40,16 +39,11 @@ fn said(s: Session, answer: Answer) -> Event
     Event::Said(s, answer.item, answer.keys, answer.reply)
 }
 
-// COMMIT and ROLLBACK are done without a line.
-fn done(s: Session, alloc: Global, statement: Statement) -> Event
-    ensures { event_of result ≡ Said s.number (said_command (command_of statement)) [] (Reply.Done []) }
+// COMMIT, ROLLBACK and an online backup are done without a line.
+fn done(s: Session, alloc: Global, item: Item) -> Event
+    ensures { event_of result ≡ Said s.number (uttered_of item) [] (Reply.Done []) }
 {
-    Event::Said(
-        s,
-        Item::Statement(statement),
-        Items::new(alloc),
-        Reply::Done(Items::new(alloc)),
-    )
+    Event::Said(s, item, Items::new(alloc), Reply::Done(Items::new(alloc)))
 }
 
 // A want, asked at these nodes.
@@ -97,11 +91,15 @@ pub fn record(events: &mut Vec<Event>, alloc: Global, s: Session, happened: Happ
         }
         Happening::Committed(moment) => {
             events.push_reserved(Event::Committed(s, moment));
-            events.push_reserved(done(s, alloc, Statement::Commit));
+            events.push_reserved(done(s, alloc, Item::Statement(Statement::Commit)));
+        }
+        Happening::BackedUp(item, moment) => {
+            events.push_reserved(Event::Committed(s, moment));
+            events.push_reserved(done(s, alloc, item));
         }
         Happening::RolledBack => {
             events.push_reserved(Event::RolledBack(s));
-            events.push_reserved(done(s, alloc, Statement::Rollback));
+            events.push_reserved(done(s, alloc, Item::Statement(Statement::Rollback)));
         }
         Happening::Left => events.push_reserved(Event::RolledBack(s)),
         Happening::Quiet

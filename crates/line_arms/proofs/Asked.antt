@@ -14,7 +14,7 @@ use Rattle.job_steps.specs.session_states.declared.stage.Work.TheVariants.{Openi
 use Rattle.job_steps.specs.session_states.declared.stage.Gather.{Gather}
 use Rattle.job_steps.specs.session_states.declared.stage.Gather.TheVariants as gather
 use Rattle.job_steps.specs.session_states.declared.stage.Laying.{Laying}
-use Rattle.job_steps.specs.session_states.declared.stage.Laying.TheVariants.{Claiming, Changing}
+use Rattle.job_steps.specs.session_states.declared.stage.Laying.TheVariants.{Claiming, Changing, Broken}
 use Rattle.job_steps.specs.session_states.declared.stage.Stage.{Stage}
 use Rattle.job_steps.specs.session_states.declared.stage.Stage.TheVariants.{Between, Working, Gathering, Reserving, Saying, Ending}
 use Rattle.line_store.specs.Seats.{Seat, IsWriting}
@@ -56,6 +56,7 @@ write-asked None = tt
 pub laying-asked : (ws : List Write) (laying : Laying) → MayBeAsked (lock_of_laying ws laying)
 laying-asked ws (Claiming place) = write-asked (slice_get ws place)
 laying-asked ws Changing = tt
+laying-asked ws Broken = tt
 
 -- ---- the lock on a write
 
@@ -90,4 +91,5 @@ writing-statement (Gathering item gather later place) seat st wants at = writing
 writing-statement (Reserving item r locks place) seat st wants at = writing-seat seat at
 writing-statement (Saying item r (Claiming place)) seat st wants at = writing-seat seat at
 writing-statement (Saying item r Changing) seat st wants at = absurd (wants refl)
+writing-statement (Saying item r Broken) seat st wants at = absurd (wants refl)
 writing-statement (Ending end) seat st wants at = absurd st

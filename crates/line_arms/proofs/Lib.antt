@@ -1,3 +1,4 @@
 pub mod Arms
 pub mod Asked
 pub mod Rooms
+pub mod Taken

@@ -1,5 +1,5 @@
 -- What a step of one session is, with what is left of its script.
-use Rattle.std.specs.Prelude.{◌≡◌, ◌==◌, ℕ, Bool, true, false, List, length, Option, Some, None}
+use Rattle.std.specs.Prelude.{◌≡◌, ◌≤◌, ◌+◌, ◌==◌, ℕ, Bool, true, false, List, length, Option, Some, None}
 use Rattle.rdo_ast.specs.declared.syntax.Item.{Item}
 use Rattle.lock_needs.specs.declared.need.Need.{Need}
 use Rattle.lock_needs.specs.Needs.{is_plain}
@@ -18,6 +18,7 @@ use Rattle.job_steps.specs.session_stands.Sessions.{FlyWithJournal}
 use Rattle.job_steps.specs.stage_steps.declared.happening.Happening.{Happening}
 use Rattle.job_steps.specs.stage_steps.Happenings.{events_of}
 use Rattle.job_steps.specs.stage_steps.Scenes.{Scene, Goes, NearerIn, on_shelf}
+use Rattle.job_steps.specs.session_measure.Weights.{items_in}
 
 -- session s goes from phase x to y, and what is left of its script from `left` to `rest`, where this happens
 abbrev pub GoesOn : Model → ℕ → Scene → List Item → Phase → Scene → List Item → Phase → Happening → Type 0
@@ -35,6 +36,10 @@ abbrev pub is_done : List Item → Phase → Bool
 is_done left Outside = length left == 0
 is_done left Over = true
 is_done left x = false
+
+-- in a step from this phase at most one item of the script is taken up, and none where one is under way
+abbrev pub TakesOne : (left rest : List Item) → Phase → Type 0
+TakesOne left rest x = length left + items_in x ≤ length rest + 1
 
 -- a lock that a statement may ask for: it is plain, and isn't the journal
 abbrev pub MayBeAsked : Option Need → Type 0

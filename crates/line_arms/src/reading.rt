@@ -1,20 +1,21 @@
 //! A read-only transaction, by its stage.
-ghost use Rattle.std.specs.Prelude.{◌≡◌, List, []};
+ghost use Rattle.std.specs.Prelude.{◌≡◌, List, [], true, is_some};
 ghost use Rattle.rdo_ast.specs.declared.syntax.Item.{Item as ItemValue};
 ghost use Rattle.line_store.specs.Seats.{IsMember};
 ghost use Rattle.job_steps.specs.session_states.declared.stage.Phase.TheVariants.{Reading};
 ghost use Rattle.job_steps.specs.session_stands.Seated.{IsSeated};
 ghost use Rattle.job_steps.specs.session_measure.Nearer.{AreRounds};
 ghost use Rattle.job_steps.specs.stage_steps.Happenings.{handed_back};
-ghost use Rattle.job_steps.specs.stage_steps.Scenes.{ComesIn, scene};
+ghost use Rattle.job_steps.specs.session_states.States.{copies_at, copies_in};
+ghost use Rattle.job_steps.specs.stage_steps.Scenes.{BacksIn, ComesIn, scene};
 ghost use Rattle.job_steps.specs.stage_steps.Turns.{reads_at};
-ghost use Rattle.line_arms.specs.Going.{GoesOn};
+ghost use Rattle.line_arms.specs.Going.{GoesOn, TakesOne};
 
 use crate::Allotment;
 use job_steps::{
     Common, ItemQueue, Reader, ReaderRound, ReaderStage, ReaderTerms, ReaderWork, Turned,
-    compute_reading, fetch_reading, forgo_reading, hand_out_reading, leave_reading, quiet,
-    take_up_reading,
+    compute_reading, fetch_reading, forgo_reading, go_on_copying, hand_out_reading, leave_reading,
+    quiet, take_up_reading,
 };
 use line_store::LineStore;
 use rdb_types::Session;
@@ -36,6 +37,8 @@ pub(crate) fn go_on_reading<S: Statements, L: LineStore>(
     ensures some { (rest : List ItemValue) × GoesOn S.stands s.number (scene common.old.word (L.sight common.old.store) common.old.tree) left.old (Reading reader)
         (scene common.new.word (L.sight common.new.store) common.new.tree) rest result.phase result.happened }
     ensures rounds { AreRounds (Reading reader) result.phase allotment.old.rounds allotment.new.rounds }
+    ensures backed { is_some (copies_in (Reading reader)) ≡ true → BacksIn s.number result.happened (L.sight common.old.store) (L.sight common.new.store) }
+    ensures one { TakesOne left.old left.new (Reading reader) }
 {
     let Reader {
         standing,
@@ -74,6 +77,7 @@ fn read_next<S: Statements, L: LineStore>(
         (scene common.new.word (L.sight common.new.store) common.new.tree) left.new result.phase result.happened }
     ensures some { (rest : List ItemValue) × GoesOn S.stands s.number (scene common.old.word (L.sight common.old.store) common.old.tree) left.old (reads_at terms ReaderStage.Between)
         (scene common.new.word (L.sight common.new.store) common.new.tree) rest result.phase result.happened }
+    ensures one { TakesOne left.old left.new (reads_at terms ReaderStage.Between) }
 {
     match left.pop() {
         Some(item) => {
@@ -98,6 +102,7 @@ fn look<S: Statements, L: LineStore>(
     ensures comes { ComesIn S.stands s.number (scene common.old.word (L.sight common.old.store) common.old.tree) (reads_at terms (ReaderStage.Working item work))
         (scene common.new.word (L.sight common.new.store) common.new.tree) result.phase result.happened }
     ensures rounds { AreRounds (reads_at terms (ReaderStage.Working item work)) result.phase allotment.old.rounds allotment.new.rounds }
+    ensures backed { is_some (copies_at (ReaderStage.Working item work)) ≡ true → BacksIn s.number result.happened (L.sight common.old.store) (L.sight common.new.store) }
 {
     match work {
         ReaderWork::Due => {
@@ -111,5 +116,6 @@ fn look<S: Statements, L: LineStore>(
             let store = &mut common.store;
             compute_reading::<S, L>(common.alloc, &common.word, store, s, terms, item)
         }
+        ReaderWork::Copying => go_on_copying::<S, L>(&mut common.store, s, terms, item),
     }
 }

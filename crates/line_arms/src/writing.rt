@@ -1,12 +1,12 @@
 //! A read-write transaction, by its stage.
-ghost use Rattle.std.specs.Prelude.{◌≡◌};
+ghost use Rattle.std.specs.Prelude.{◌≡◌, false};
 ghost use Rattle.line_store.specs.Seats.{IsMember};
 ghost use Rattle.job_steps.specs.session_states.declared.stage.Phase.TheVariants.{Writing};
 ghost use Rattle.job_steps.specs.session_stands.Seated.{IsSeated};
-ghost use Rattle.job_steps.specs.session_measure.Nearer.{AreRounds};
+ghost use Rattle.job_steps.specs.session_measure.Nearer.{AreRounds, is_broken, is_laid_broken, is_stage_broken};
 ghost use Rattle.job_steps.specs.stage_steps.Scenes.{ComesIn, scene};
 ghost use Rattle.job_steps.specs.stage_steps.Turns.{at_stage};
-ghost use Rattle.line_arms.specs.Going.{GoesOn, IsAmong};
+ghost use Rattle.line_arms.specs.Going.{GoesOn, IsAmong, TakesOne};
 
 use crate::Allotment;
 use crate::ending::go_on_ending;
@@ -35,9 +35,11 @@ pub(crate) fn go_on_writing<S: Reserves + Reaches, L: LineStore>(
     requires member { IsMember s.number }
     requires seated { IsSeated (L.sight common.old.store).stand common.old.tree s.number (Writing writer) }
     requires among { IsAmong (L.sight common.old.store).stand common.old.tree s.number }
+    requires whole { is_broken (Writing writer) ≡ false }
     ensures goes { GoesOn S.stands s.number (scene common.old.word (L.sight common.old.store) common.old.tree) left.old (Writing writer)
         (scene common.new.word (L.sight common.new.store) common.new.tree) left.new result.phase result.happened }
     ensures rounds { AreRounds (Writing writer) result.phase allotment.old.rounds allotment.new.rounds }
+    ensures one { TakesOne left.old left.new (Writing writer) }
 {
     let Writer {
         standing,
@@ -70,6 +72,7 @@ fn go_on_stage<S: Reserves + Reaches, L: LineStore>(
     requires seated { IsSeated (L.sight common.old.store).stand common.old.tree s.number (at_stage terms stage) }
     requires among { IsAmong (L.sight common.old.store).stand common.old.tree s.number }
     requires under { stage ≡ Stage.Between → ⊥ }
+    requires whole { is_stage_broken stage ≡ false }
     ensures comes { ComesIn S.stands s.number (scene common.old.word (L.sight common.old.store) common.old.tree) (at_stage terms stage)
         (scene common.new.word (L.sight common.new.store) common.new.tree) result.phase result.happened }
     ensures rounds { AreRounds (at_stage terms stage) result.phase allotment.old.rounds allotment.new.rounds }
@@ -109,8 +112,9 @@ fn take_next<S: Statements, L: LineStore>(
 ) -> Turned
     requires member { IsMember s.number }
     requires seated { IsSeated (L.sight common.old.store).stand common.old.tree s.number (at_stage terms Stage.Between) }
-    ensures { GoesOn S.stands s.number (scene common.old.word (L.sight common.old.store) common.old.tree) left.old (at_stage terms Stage.Between)
+    ensures goes { GoesOn S.stands s.number (scene common.old.word (L.sight common.old.store) common.old.tree) left.old (at_stage terms Stage.Between)
         (scene common.new.word (L.sight common.new.store) common.new.tree) left.new result.phase result.happened }
+    ensures one { TakesOne left.old left.new (at_stage terms Stage.Between) }
 {
     match left.pop() {
         Some(item) => {
@@ -132,10 +136,13 @@ fn go_on_saying<S: Statements, L: LineStore>(
 ) -> Turned
     requires member { IsMember s.number }
     requires seated { IsSeated (L.sight common.old.store).stand common.old.tree s.number (at_stage terms (Stage.Saying item worked laying)) }
+    requires whole { is_laid_broken laying ≡ false }
     ensures { ComesIn S.stands s.number (scene common.old.word (L.sight common.old.store) common.old.tree) (at_stage terms (Stage.Saying item worked laying))
         (scene common.new.word (L.sight common.new.store) common.new.tree) result.phase result.happened }
 {
     match laying {
+        // (its session has died)
+        Laying::Broken => unreachable!(),
         Laying::Changing => change::<S, L>(&mut common.store, s, terms, item, worked),
         Laying::Claiming(place) => {
             if place < worked.writes.len() {

@@ -1,5 +1,5 @@
 -- Sessions that have said nothing are sound.
-use Rattle.std.proofs.Common.{◌≡◌, ◌≤◌, ℕ, zero, suc, ◌∷◌, [], Bool, List, length, map, refl, ◌∙◌, sym, ap, subst, arith, Some, None, slice_get, inl, inr}
+use Rattle.std.proofs.Common.{◌≡◌, ◌≤◌, ℕ, zero, suc, ◌∷◌, [], Bool, List, length, map, refl, ◌∙◌, sym, ap, subst, arith, Some, None, slice_get, inl, inr, false}
 use Rattle.std.proofs.lemmas.Bool.{false≢true}
 use Rattle.std.proofs.lemmas.Option.{none-some, same_Some}
 use Rattle.rdo_ast.specs.Views.{uttered_of}
@@ -15,6 +15,7 @@ use Rattle.session_states.specs.declared.stage.Member.{Member}
 use Rattle.session_states.specs.declared.stage.Phase.TheVariants.{Outside}
 use Rattle.session_states.specs.declared.stage.Life.TheVariants.{Alive}
 use Rattle.session_states.specs.Kept.{AreKept}
+use Rattle.session_measure.specs.Nearer.{is_broken}
 use Rattle.session_states.proofs.Opened.{opened}
 use Rattle.line_account.specs.session_stands.Sessions.{AreSeated, IsTold, dead_in, sharing}
 use Rattle.line_account.proofs.of_session_stands.Seating.{began}
@@ -23,7 +24,7 @@ use Rattle.line_account.specs.stage_steps.Scenes.{Scene}
 use Rattle.rdb_account.specs.Events.{event_of}
 use Rattle.rdb_account.specs.declared.event.Event.{Event as Declared}
 use Rattle.line_cluster.proofs.Stepping.{told-images}
-use Rattle.line_cluster.specs.Sound.{IsSound, AreSound, FollowsScripts, IsOpenedBy, MayFail, fresh_member, stop_of}
+use Rattle.line_cluster.specs.Sound.{AreWhole, IsSound, AreSound, FollowsScripts, IsOpenedBy, MayFail, fresh_member, stop_of}
 use Rattle.line_cluster.proofs.Faults.{rose-none}
 use Rattle.line_cluster.proofs.Room.{lives-few}
 
@@ -92,7 +93,12 @@ begins M orderly told o faults c scripts agrees stands openable away parties tra
         past = λ k x found. absurd (none-some x found);
         each = λ k x found. absurd (none-some x found);
       };
+      backups = record { copiers = is.copiers; each = λ n x found. absurd (none-some x found) };
     }
+
+-- nobody has begun anything
+whole-fresh : (scripts : List WholeScript) → AreWhole (map fresh_member scripts)
+whole-fresh scripts i m found alive = let at = map-got fresh_member scripts i m found in subst (λ (x : Member). is_broken x.phase ≡ false) at.2 refl
 
 pub starts : (M : Model) (orderly : IsOrderly M) (told : Type 0) (o : Opening) (faults sessions : ℕ) (c : Scene) (scripts : List WholeScript) (members : List Member) (events : List Declared) (stops : List Bool) (spare : ℕ) → Agrees c.sight → Stands c.sight → MayBeOpened c.sight → ((s : ℕ) → c.sight.stand s ≡ outside) →
     c.locks.parties ≡ [] → c.locks.trail ≡ [] → FollowsScripts o scripts → (told → IsOpenedBy M o faults c.word c.sight) → members ≡ map fresh_member scripts → stops ≡ map stop_of scripts → events ≡ [] → length scripts ≡ sessions → sessions ≤ 16 → MayFail o → 32 ≤ spare →
@@ -100,6 +106,7 @@ pub starts : (M : Model) (orderly : IsOrderly M) (told : Type 0) (o : Opening) (
 starts M orderly told o faults sessions c scripts members events stops spare agrees stands openable away parties trail follows opens are ends none count few mortal room = record {
   sound = subst (λ (ms : List Member). IsSound M told o faults c ms (map event_of events) None) (sym are) (subst (λ (es : List Declared). IsSound M told o faults c (map fresh_member scripts) (map event_of es) None) (sym none)
       (begins M orderly told o faults c scripts agrees stands openable away parties trail follows opens));
+  whole = λ going. subst AreWhole (sym are) (whole-fresh scripts);
   count = ap length are ∙ (as-long fresh_member scripts ∙ count);
   few = few;
   mortal = mortal;

@@ -17,7 +17,7 @@ use Rattle.lock_tree_laws.specs.Wanted.{needs_of}
 use Rattle.session_states.specs.declared.stage.Work.{Work}
 use Rattle.session_states.specs.declared.stage.Work.TheVariants.{Opening, Due, Out, Lacking, Housing, Fetching, Lodging}
 use Rattle.session_states.specs.declared.stage.Laying.{Laying}
-use Rattle.session_states.specs.declared.stage.Laying.TheVariants.{Claiming, Changing}
+use Rattle.session_states.specs.declared.stage.Laying.TheVariants.{Claiming, Changing, Broken}
 use Rattle.session_states.specs.declared.stage.End.{End}
 use Rattle.session_states.specs.declared.stage.End.TheVariants.{Preparing, Journal as JournalStage, Ready, Committing, RollingBack, Leaving}
 use Rattle.session_states.specs.declared.stage.Stage.{Stage}
@@ -70,9 +70,10 @@ work-few (Housing room key) = omega arith
 work-few (Fetching n) = omega arith
 work-few (Lodging room key) = omega arith
 
-laying-few : (l : Laying) → laying_rank l ≤ 11
+laying-few : (l : Laying) → laying_rank l ≤ 15
 laying-few (Claiming place) = omega arith
 laying-few Changing = omega arith
+laying-few Broken = omega arith
 
 end-few : (e : End) → end_rank e ≤ 11
 end-few Preparing = omega arith
@@ -82,23 +83,23 @@ end-few Committing = omega arith
 end-few RollingBack = omega arith
 end-few Leaving = omega arith
 
-more : (n : ℕ) → n ≤ 11 → n ≤ 14
+more : (n : ℕ) → n ≤ 11 → n ≤ 15
 more n h = omega arith
 
-stage-few : (x : Stage) → stage_rank x ≤ 14
+stage-few : (x : Stage) → stage_rank x ≤ 15
 stage-few Between = omega arith
 stage-few (Working item w) = more (work_rank w) (work-few w)
 stage-few (Gathering item gather later place) = omega arith
 stage-few (Reserving item r locks place) = omega arith
-stage-few (Saying item r laying) = more (laying_rank laying) (laying-few laying)
+stage-few (Saying item r laying) = laying-few laying
 stage-few (Ending end) = more (end_rank end) (end-few end)
 
-reader-few : (x : ReaderStage) → reader_rank x ≤ 14
+reader-few : (x : ReaderStage) → reader_rank x ≤ 15
 reader-few look.Between = omega arith
 reader-few (look.Working item w) = omega arith
 reader-few (look.Gathering item n later place) = omega arith
 
-rank-few : (x : Phase) → rank x ≤ 14
+rank-few : (x : Phase) → rank x ≤ 15
 rank-few Outside = omega arith
 rank-few Closing = omega arith
 rank-few (Writing w) = stage-few w.stage
@@ -125,6 +126,7 @@ stage-left-few (Ending end) = omega arith
 reader-work-few : (w : ReaderWork) → reader_work_left w ≤ 8
 reader-work-few work.Due = omega arith
 reader-work-few work.Out = omega arith
+reader-work-few work.Copying = omega arith
 
 reader-left-few : (x : ReaderStage) → reader_left x ≤ 8
 reader-left-few look.Between = omega arith

@@ -7,12 +7,15 @@ use Rattle.rdb_types.specs.declared.session.Cause.TheVariants.{Device, Gate, Sto
 use Rattle.rdo_ast.specs.declared.syntax.Item.{Item}
 use Rattle.rdb_account.specs.Events.{Event, Died}
 use Rattle.rdb_account.specs.Places.{Opening}
+use Rattle.rdb_account.specs.Backups.{backups}
+use Rattle.rdb_account.proofs.Backups.{backups-grown}
 use Rattle.line_store.specs.declared.answers.Fault.{Fault}
 use Rattle.line_store.specs.declared.answers.Fault.TheVariants.{Failed, Bad}
 use Rattle.line_store.specs.Calls.{Fails}
 use Rattle.lock_tree_laws.specs.Forest.{State}
-use Rattle.line_store.specs.Seats.{Seat, outside, beginning, writing, changing, prepared, committing, rolling_back, closing, reading, dead, done_at, IsAlive}
+use Rattle.line_store.specs.Seats.{Seat, outside, beginning, writing, changing, broken, prepared, committing, rolling_back, closing, reading, copying, dead, begun, begun_by, copied_at, done_at, IsAlive}
 use Rattle.line_store.specs.Sights.{Behind, Stands, bare}
+use Rattle.line_store.proofs.Begun.{copied-bare}
 use Rattle.line_store.proofs.InTurn.{does-as}
 use Rattle.session_jobs.specs.Records.{Model, IsOrderly}
 use Rattle.session_states.specs.declared.stage.Phase.{Phase}
@@ -20,12 +23,12 @@ use Rattle.session_states.specs.declared.stage.Life.{Life}
 use Rattle.session_states.specs.declared.stage.Life.TheVariants.{Alive, Dead}
 use Rattle.session_states.specs.declared.stage.Member.{Member}
 use Rattle.session_states.specs.declared.stage.Work.TheVariants.{Opening as OpeningIt, Due, Out, Lacking, Housing, Fetching, Lodging}
-use Rattle.session_states.specs.declared.stage.Laying.TheVariants.{Claiming, Changing}
+use Rattle.session_states.specs.declared.stage.Laying.TheVariants.{Claiming, Changing, Broken}
 use Rattle.session_states.specs.declared.stage.End.TheVariants.{Preparing, Journal, Ready, Committing, RollingBack, Leaving}
 use Rattle.session_states.specs.declared.stage.Stage.{Stage}
 use Rattle.session_states.specs.declared.stage.Stage.TheVariants.{Between, Working, Gathering, Reserving, Saying, Ending}
 use Rattle.session_states.specs.declared.stage.Phase.TheVariants.{Outside, Closing, Writing, Reading, Over}
-use Rattle.session_states.specs.States.{commits_in, has_said_all, may_die_in, session, dead_session, gone_session}
+use Rattle.session_states.specs.States.{commits_in, copies_at, has_said_all, seat_of_reader, may_die_in, session, dead_session, gone_session}
 use Rattle.session_states.specs.Steps.{Fall}
 use Rattle.line_account.specs.session_stands.Seated.{stand_of, IsStandOf, HasFallen, LivesAt}
 use Rattle.line_account.specs.session_stands.Sessions.{AreSeated, IsTold, dead_in, one_dead}
@@ -50,16 +53,35 @@ dead-moved [] i m n found = absurd (none-some m found)
 dead-moved (x ∷ xs) zero m n found = let e : one_dead x.life ≡ one_dead m.life = ap (λ (y : Member). one_dead y.life) (same_Some x m found) in omega (arith, e)
 dead-moved (x ∷ xs) (suc i) m n found = let rest = dead-moved xs i m n found in omega (arith, rest)
 
+-- ---- who died or is recovered copies nothing
+
+none-begun : (old new : ℕ → Seat) (s : ℕ) → copied_at (new s) ≡ None → begun (old s) (new s) ≡ None
+none-begun old new s none = ap (begun_by (copied_at (old s))) none
+
+fallen-copies : (stand : ℕ → Seat) (locks : State) (s : ℕ) (x : Phase) → HasFallen stand locks s x → copied_at (stand s) ≡ None
+fallen-copies stand locks s x f = sym (copied-bare (stand s)) ∙ ap copied_at f.seat
+
+recovered-copies : (stand : ℕ → Seat) (locks : State) (s : ℕ) (x : Phase) (result : Result Recovery Fault) → LivesAt stand locks s x (life_behind result) → copied_at (stand s) ≡ None
+recovered-copies stand locks s x (Ok (Done committed moment)) f = sym (copied-bare (stand s)) ∙ ap copied_at f.seat
+recovered-copies stand locks s x (Ok More) f = fallen-copies stand locks s x f
+recovered-copies stand locks s x (Err fault) f = fallen-copies stand locks s x f
+
+recovered-still : (o : Opening) (events : List Event) (s : ℕ) (result : Result Recovery Fault) → backups o (events ++ recovery_events s result) ≡ backups o events
+recovered-still o events s (Ok (Done committed moment)) = backups-grown o events (recovery_events s (Ok (Done committed moment)))
+recovered-still o events s (Ok More) = backups-grown o events (recovery_events s (Ok More))
+recovered-still o events s (Err fault) = backups-grown o events (recovery_events s (Err fault))
+
 module _ (M : Model) (orderly : IsOrderly M) (told : Type 0) (o : Opening) (faults : ℕ) (c d : Scene) (stands : Stands d.sight) (members : List Member) (events : List Event) (i : ℕ) (was : IsSound M told o faults c members events None) where
   -- one comes to another life
   module _ (N : Type 0) (es : List Event) (m n : Member) (halt : Option Halt) (found : slice_get members i ≡ Some m) (same : n.phase ≡ m.phase)
+      (begins : begun (c.sight.stand (suc i)) (d.sight.stand (suc i)) ≡ None) (still : backups o (events ++ es) ≡ backups o events)
       (goes : Goes (suc i) m.phase m.life m.phase n.life (λ h g. Fall M o (suc i) (on_shelf c h (dead_in members)) m (on_shelf d g (dead_in (slice_set members i n))) n es) N c d) where
     sits : AreSeated d.sight.stand d.locks (slice_set members i n)
     sits = seated c.sight.stand d.sight.stand c.locks d.locks members i m n (was.seated refl) found goes.does.others goes.parties
         (subst (λ (x : Phase). LivesAt d.sight.stand d.locks (suc i) x n.life) (sym same) (goes.lives ((was.seated refl).each (suc i) m found)))
 
     tells : told → IsTold M o d.word d.sight d.locks (slice_set members i n) (events ++ es)
-    tells t = falls M orderly o c.word d.word c.sight d.sight c.locks d.locks members events es i m n (d.sight.stand (suc i)) found stands (was.seated refl) sits goes.does (was.kept refl t)
+    tells t = falls M orderly o c.word d.word c.sight d.sight c.locks d.locks members events es i m n (d.sight.stand (suc i)) found stands (was.seated refl) sits goes.does begins still (was.kept refl t)
 
     -- what was counted is counted on
     pub counts-fallen : (k : ℕ) → CountsFaults faults k c.sight → CountsFaults faults k d.sight
@@ -93,10 +115,12 @@ module _ (M : Model) (orderly : IsOrderly M) (told : Type 0) (o : Opening) (faul
               (λ h k shown then all. subst (λ (n : ℕ). Fall M o (suc i) (on_shelf c h (dead_in members)) (session left total x) (on_shelf d k n) (dead_session left total x) (Died (suc i) cause ∷ [])) (sym more) (all o (dead_in members) left total cause may))
               g.does;
         } in
+        let begins = none-begun c.sight.stand d.sight.stand (suc i) (fallen-copies d.sight.stand d.locks (suc i) x (g.lives ((was.seated refl).each (suc i) (session left total x) found))) in
+        let still : backups o (events ++ Died (suc i) cause ∷ []) ≡ backups o events = backups-grown o events (Died (suc i) cause ∷ []) in
         let counted : told → CountsFaults faults (failures (events ++ Died (suc i) cause ∷ []) halt) d.sight = λ t.
         counts-fewer faults (failures (events ++ Died (suc i) cause ∷ []) halt) (device_deaths events + faults_of cause) d.sight (one-death events (suc i) cause halt going)
-        (counts-fallen _ (Died (suc i) cause ∷ []) (session left total x) (dead_session left total x) halt found refl goes (device_deaths events + faults_of cause) (caused t)) in
-        fallen _ (Died (suc i) cause ∷ []) (session left total x) (dead_session left total x) halt found refl goes counted agrees (λ t over. absurd (false≢true (sym slot ∙ over)))
+        (counts-fallen _ (Died (suc i) cause ∷ []) (session left total x) (dead_session left total x) halt found refl begins still goes (device_deaths events + faults_of cause) (caused t)) in
+        fallen _ (Died (suc i) cause ∷ []) (session left total x) (dead_session left total x) halt found refl begins still goes counted agrees (λ t over. absurd (false≢true (sym slot ∙ over)))
 
     life-of-behind : (result : Result Recovery Fault) → (recovered_by result left total x).life ≡ life_behind result
     life-of-behind (Ok (Done committed moment)) = refl
@@ -117,7 +141,8 @@ module _ (M : Model) (orderly : IsOrderly M) (told : Type 0) (o : Opening) (faul
     spent-recovered : (result : Result Recovery Fault) → NearerRecoveredIn (suc i) result c d left total x → told → slot_in result ≡ true → ShowsSpent d.sight
     spent-recovered (Err (Bad file slot)) near t e =
         let k = was.kept refl t in
-        let it : Behind c.sight d.sight (Fails (suc i) (Bad file slot)) k.shelf = near k.shelf k.shown in
+        let at = near k.shelf k.shown in
+        let it : Behind c.sight d.sight at.0 (Fails (suc i) (Bad file slot)) k.shelf = at.1 in
         let fails : Fails (suc i) (Bad file slot) k.shelf it.shelf = it.related in
         record { shelf = it.shelf; shown = it.shown; spent = fails.cause }
     spent-recovered (Err Failed) near t e = absurd (false≢true e)
@@ -137,11 +162,13 @@ module _ (M : Model) (orderly : IsOrderly M) (told : Type 0) (o : Opening) (faul
               (λ h k shown then all. subst (λ (n : ℕ). Fall M o (suc i) (on_shelf c h (dead_in members)) (dead_session left total x) (on_shelf d k n) (recovered_by result left total x) (recovery_events (suc i) result)) (sym (fewer found result)) (all o (dead_in members) left total))
               g.does;
         } in
-        let on : told → CountsFaults faults (failures events None) d.sight = λ t. counts-fallen _ (recovery_events (suc i) result) (dead_session left total x) (recovered_by result left total x) halt found (phase-of-behind result) goes (failures events None) (was.causes t) in
+        let begins = none-begun c.sight.stand d.sight.stand (suc i) (recovered-copies d.sight.stand d.locks (suc i) x result (g.lives ((was.seated refl).each (suc i) (dead_session left total x) found))) in
+        let still = recovered-still o events (suc i) result in
+        let on : told → CountsFaults faults (failures events None) d.sight = λ t. counts-fallen _ (recovery_events (suc i) result) (dead_session left total x) (recovered_by result left total x) halt found (phase-of-behind result) begins still goes (failures events None) (was.causes t) in
         let counted : told → CountsFaults faults (failures (events ++ recovery_events (suc i) result) halt) d.sight = λ t.
         counts-fewer faults (failures (events ++ recovery_events (suc i) result) halt) (failures events None + failed_in result) d.sight (recovery-fails events (suc i) result None halt says)
         (counts-recovered faults (suc i) (failures events None) c d left total x result (g.nearer left total) (was.causes t) (on t)) in
-        fallen _ (recovery_events (suc i) result) (dead_session left total x) (recovered_by result left total x) halt found (phase-of-behind result) goes counted agrees (λ t is. spent-recovered result (g.nearer left total) t (sym over ∙ is))
+        fallen _ (recovery_events (suc i) result) (dead_session left total x) (recovered_by result left total x) halt found (phase-of-behind result) begins still goes counted agrees (λ t is. spent-recovered result (g.nearer left total) t (sym over ∙ is))
 
 -- ---- as the code has it
 
@@ -191,6 +218,7 @@ stage-lives (Gathering item gather later place) = tt
 stage-lives (Reserving item r locks place) = tt
 stage-lives (Saying item r (Claiming place)) = tt
 stage-lives (Saying item r Changing) = tt
+stage-lives (Saying item r Broken) = tt
 stage-lives (Ending Preparing) = tt
 stage-lives (Ending Journal) = tt
 stage-lives (Ending Ready) = tt
@@ -203,18 +231,24 @@ done-lives outside h = tt
 done-lives beginning h = tt
 done-lives (writing ws) h = tt
 done-lives (changing ws) h = tt
+done-lives (broken ws) h = tt
 done-lives (prepared ws) h = tt
 done-lives (committing ws) h = tt
 done-lives (rolling_back ws) h = tt
 done-lives closing h = tt
 done-lives (reading start) h = tt
+done-lives (copying number start) h = tt
 done-lives (dead commits ws) h = absurd (none-some outside h)
+
+reader-lives : (number : Option ℕ) → IsAlive (seat_of_reader number [])
+reader-lives None = tt
+reader-lives (Some n) = tt
 
 phase-lives : (x : Phase) (seat : Seat) → IsStandOf x seat → IsAlive seat
 phase-lives Outside seat h = subst (λ (y : Seat). IsAlive y) (sym h) tt
 phase-lives Closing seat h = done-lives seat h
 phase-lives (Writing w) seat h = subst (λ (y : Seat). IsAlive y) (sym h) (stage-lives w.stage)
-phase-lives (Reading r) seat h = subst (λ (y : Seat). IsAlive y) (sym h) tt
+phase-lives (Reading r) seat h = subst (λ (y : Seat). IsAlive y) (sym h) (reader-lives (copies_at r.stage))
 phase-lives Over seat h = subst (λ (y : Seat). IsAlive y) (sym h) tt
 
 bare-lives : (seat : Seat) → IsAlive (bare seat) → IsAlive seat
@@ -222,11 +256,13 @@ bare-lives outside h = tt
 bare-lives beginning h = tt
 bare-lives (writing ws) h = tt
 bare-lives (changing ws) h = tt
+bare-lives (broken ws) h = tt
 bare-lives (prepared ws) h = tt
 bare-lives (committing ws) h = tt
 bare-lives (rolling_back ws) h = tt
 bare-lives closing h = tt
 bare-lives (reading start) h = tt
+bare-lives (copying number start) h = tt
 bare-lives (dead commits ws) h = h
 
 pub alive-stands : (stand : ℕ → Seat) (locks : State) (members : List Member) (s at : ℕ) (m : Member) → 1 ≤ s → at ≡ s - 1 → slice_get members at ≡ Some m → m.life ≡ Alive → AreSeated stand locks members → IsAlive (stand s)

@@ -12,7 +12,7 @@ use Rattle.lock_ties.specs.Ties.{wanted_at}
 use Rattle.lock_tree.specs.declared.notice.Demotion.{Demotion}
 use Rattle.line_store.specs.declared.answers.Fault.{Fault}
 use Rattle.line_store.specs.declared.answers.Fault.TheVariants as fault
-use Rattle.line_store.specs.Seats.{Seat}
+use Rattle.line_store.specs.Seats.{Seat, begun}
 use Rattle.line_store.specs.Shelves.{Shelf, Elapses}
 use Rattle.line_store.specs.Calls.{Fails}
 use Rattle.line_store.specs.Sights.{Sight, Behind, Does}
@@ -20,7 +20,7 @@ use Rattle.session_states.specs.declared.stage.Phase.{Phase}
 use Rattle.line_account.specs.stage_steps.declared.dying.Recovery.{Recovery}
 use Rattle.line_account.specs.stage_steps.declared.dying.Recovery.TheVariants.{More, Done}
 use Rattle.line_account.specs.stage_steps.declared.happening.Happening.{Happening}
-use Rattle.line_account.specs.stage_steps.declared.happening.Happening.TheVariants.{Quiet, Began, Answered, Unstarted, Asleep, Noticed, Got, Refused, RefusedStart, Committed, RolledBack, Left, Failed, Unlaid, Unworked, Unanswered, Unsound}
+use Rattle.line_account.specs.stage_steps.declared.happening.Happening.TheVariants.{Quiet, Began, Answered, Unstarted, Asleep, Noticed, Got, Refused, RefusedStart, Committed, BackedUp, RolledBack, Left, Failed, Unlaid, Unworked, Unanswered, Unsound}
 use Rattle.line_account.specs.stage_steps.Happenings.{events_of}
 use Rattle.line_account.specs.stage_steps.Notices.{demoted_by}
 use Rattle.line_account.specs.stage_steps.Scenes.{Scene, HasFailed}
@@ -48,14 +48,15 @@ module _ (faults s : ℕ) (old new : Sight) where
   -- a call goes on from each shelf
   pub counts-on : (n : ℕ) (there : Seat) (R : Shelf → Shelf → Type 0) → ((h g : Shelf) → R h g → Elapses h.clock g.clock) → Does s there R old new → CountsFaults faults n old → CountsFaults faults n new
   counts-on n there R later does k =
-      let it : Behind old new R k.shelf = does.each k.shelf k.shown in
+      let it : Behind old new (begun (old.stand s) there) R k.shelf = does.each k.shelf k.shown in
       let on : Elapses (k.shelf).clock (it.shelf).clock = later k.shelf it.shelf it.related in
       record { shelf = it.shelf; shown = it.shown; rose = rose-on n faults k.shelf.clock.faults it.shelf.clock.faults on.no_fewer k.rose }
 
   -- a device call failed
   pub counts-failed : (n : ℕ) → HasFailed s fault.Failed old new → CountsFaults faults n old → CountsFaults faults (n + 1) new
   counts-failed n failed k =
-      let it : Behind old new (Fails s fault.Failed) k.shelf = failed k.shelf k.shown in
+      let at = failed k.shelf k.shown in
+      let it : Behind old new at.0 (Fails s fault.Failed) k.shelf = at.1 in
       let fails : Fails s fault.Failed k.shelf it.shelf = it.related in
       record { shelf = it.shelf; shown = it.shown; rose = rose-more n faults k.shelf.clock.faults it.shelf.clock.faults k.rose fails.cause }
 
@@ -86,6 +87,7 @@ step-alive s (Got x) = neither-died (wanted_at s x.need x.nodes) _ (wanted-alive
 step-alive s (Refused x a) = neither-died (wanted_at s x.need x.nodes) _ (wanted-alive s x.need x.nodes) refl
 step-alive s (RefusedStart x a) = neither-died (wanted_at s x.need x.nodes) _ (wanted-alive s x.need x.nodes) refl
 step-alive s (Committed moment) = refl
+step-alive s (BackedUp done moment) = refl
 step-alive s RolledBack = refl
 step-alive s Left = refl
 step-alive s (Failed fault) = refl

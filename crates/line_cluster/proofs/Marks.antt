@@ -9,7 +9,7 @@ use Rattle.rdb_account.specs.Events.{Event}
 use Rattle.rdb_drive.specs.Boards.{Mark, AllOf, AllNobodys, answers}
 use Rattle.line_account.specs.stage_steps.declared.happening.Asking.{Asking}
 use Rattle.line_account.specs.stage_steps.declared.happening.Happening.{Happening}
-use Rattle.line_account.specs.stage_steps.declared.happening.Happening.TheVariants.{Quiet, Began, Answered, Unstarted, Asleep, Noticed, Got, Refused, RefusedStart, Committed, RolledBack, Left, Failed, Unlaid, Unworked, Unanswered, Unsound}
+use Rattle.line_account.specs.stage_steps.declared.happening.Happening.TheVariants.{Quiet, Began, Answered, Unstarted, Asleep, Noticed, Got, Refused, RefusedStart, Committed, BackedUp, RolledBack, Left, Failed, Unlaid, Unworked, Unanswered, Unsound}
 use Rattle.line_account.specs.stage_steps.Happenings.{events_of, asked_by}
 use Rattle.line_account.specs.stage_steps.Notices.{demoted_by}
 use Rattle.line_cluster.specs.declared.behind.Notice.{Notice}
@@ -54,6 +54,7 @@ step-marks s (Got x) = asked-with s x _ ((refl, tt), omega arith)
 step-marks s (Refused x a) = asked-with s x _ ((refl, tt), omega arith)
 step-marks s (RefusedStart x a) = asked-with s x _ ((refl, (refl, tt)), omega arith)
 step-marks s (Committed moment) = ((refl, (refl, tt)), omega arith)
+step-marks s (BackedUp done moment) = ((refl, (refl, tt)), omega arith)
 step-marks s RolledBack = ((refl, (refl, tt)), omega arith)
 step-marks s Left = ((refl, tt), omega arith)
 step-marks s (Failed fault) = (tt, omega arith)

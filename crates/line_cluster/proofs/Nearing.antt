@@ -64,6 +64,7 @@ moves M s (happens.Got x) c d m n is awake near = near
 moves M s (happens.Refused x a) c d m n is awake near = near
 moves M s (happens.RefusedStart x a) c d m n is awake near = near
 moves M s (happens.Committed moment) c d m n is awake near = near
+moves M s (happens.BackedUp item moment) c d m n is awake near = near
 moves M s happens.RolledBack c d m n is awake near = near
 moves M s happens.Left c d m n is awake near = near
 moves M s (happens.Failed fault) c d m n is awake near = absurd (false≢true is)

@@ -4,6 +4,7 @@ use Rattle.rdb_types.specs.declared.session.Cause.TheVariants as cause
 use Rattle.rdo_ast.specs.Views.{uttered_of}
 use Rattle.rdb_account.specs.Events.{Event}
 use Rattle.rdb_account.specs.Places.{Opening, place}
+use Rattle.rdb_account.specs.Backups.{backups}
 use Rattle.rdb_account.specs.Legal.{IsLegal}
 use Rattle.line_view.specs.Knowledge.{Lines}
 use Rattle.lock_tree_laws.specs.Forest.{State}
@@ -13,22 +14,26 @@ use Rattle.line_store.specs.Sights.{Sight}
 use Rattle.line_steps.specs.Images.{AreLeft, IsNow}
 use Rattle.session_jobs.specs.Records.{Model}
 use Rattle.session_states.specs.declared.stage.Phase.TheVariants.{Outside}
+use Rattle.session_states.specs.declared.stage.Life.TheVariants.{Alive}
 use Rattle.session_states.specs.declared.stage.Member.{Member}
 use Rattle.session_states.specs.declared.item_queue.WholeScript.{WholeScript}
 use Rattle.session_states.specs.States.{session}
 use Rattle.session_states.specs.Kept.{IsOpened}
+use Rattle.line_account.specs.session_stands.Backed.{AreBacked}
+use Rattle.session_measure.specs.Nearer.{is_broken}
 use Rattle.line_account.specs.session_stands.Sessions.{AreSeated, IsTold, sharing}
 use Rattle.line_account.specs.stage_steps.Scenes.{Scene}
 use Rattle.line_cluster.specs.declared.sessions.Halt.{Halt}
 use Rattle.line_cluster.specs.declared.sessions.Halt.TheVariants.{Device, Unsound}
 use Rattle.line_cluster.specs.Deaths.{CountsFaults, failures, lives_in}
 
--- The store shows a shelf at whose moment each map of lines that a crash may leave stands for what the account has committed, or for that with the one in flight; and each that a crash might have left since the sessions began, or since a commit, for what was committed then, or more. A store can be opened from each image since they began.
+-- The store shows a shelf at whose moment each map of lines that a crash may leave stands for what the account has committed, or for that with the one in flight; and each that a crash might have left since the sessions began, or since a commit, for what was committed then, or more. A store can be opened from each image since they began. Each backup that counts is whole.
 pub record HasImages (M : Model) (o : Opening) (sight : Sight) (events : List Event) : Type 0 where
   pub shelf : Shelf
   pub shown : sight.shows shelf
   pub now : (lines : Lines) → sight.left shelf.clock.time lines → IsNow M o (place o events) lines
   pub since : AreLeft M o events sight.left sight.opens shelf.clock.time
+  pub backups : AreBacked M (backups o events) sight shelf.clock.time
 
 -- no session goes on since what one of them knows agrees with no sound database
 abbrev pub is_unsound : Option Halt → Bool
@@ -56,6 +61,10 @@ pub record IsSound (M : Model) (told : Type 0) (o : Opening) (faults : ℕ) (c :
   pub agrees : told → is_unsound halt ≡ false
   pub spent : told → is_over_slot halt ≡ true → ShowsSpent c.sight
 
+-- none that lives is broken: one at whose change the store failed has died
+abbrev pub AreWhole : List Member → Type 0
+AreWhole members = (i : ℕ) (m : Member) → slice_get members i ≡ Some m → m.life ≡ Alive → is_broken m.phase ≡ false
+
 -- session s is one of these
 pub record IsOneOf (members : List Member) (s : ℕ) : Type 0 where
   pub first : 1 ≤ s
@@ -66,11 +75,12 @@ pub record IsOneOf (members : List Member) (s : ℕ) : Type 0 where
 abbrev pub FollowsScripts : Opening → List WholeScript → Type 0
 FollowsScripts o scripts = (i : ℕ) (x : WholeScript) → slice_get scripts i ≡ Some x → (o.script (suc i) ≡ map uttered_of x.items) × (o.stops (suc i) ≡ x.stops)
 
--- a shelf is shown as an account opens, by whose clock there are no fewer faults than these
+-- A shelf is shown as an account opens, by whose clock there are no fewer faults than these. Nobody began a backup.
 pub record IsOpenedBy (M : Model) (o : Opening) (faults : ℕ) (word : List ℕ) (sight : Sight) : Type 0 where
   pub shelf : Shelf
   pub shown : sight.shows shelf
   pub no_fewer : faults ≤ shelf.clock.faults
+  pub copiers : (n : ℕ) → sight.copier n ≡ None
   pub opened : (locks : State) → locks.parties ≡ [] → locks.trail ≡ [] → IsOpened M o (sharing word shelf locks 0)
 
 -- the store shows a shelf whose committed lines stand for the tables behind all commits of the account
@@ -94,9 +104,10 @@ pub record AreStops (o : Opening) (sessions : ℕ) (stops : List Bool) : Type 0 
 abbrev pub MayFail : Opening → Type 0
 MayFail o = (s : ℕ) → (o.may_die s cause.Device ≡ true) × (o.may_die s cause.Memory ≡ true)
 
--- They are sound, and so many: no more than the tree of locks has owners. Of each it is known whether its script ends in a stop. Behind the events so many places are spare, enough for all deaths and recoveries that may still come.
+-- They are sound, none that lives is broken, and there are so many: no more than the tree of locks has owners. Of each it is known whether its script ends in a stop. Behind the events so many places are spare, enough for all deaths and recoveries that may still come.
 pub record AreSound (M : Model) (told : Type 0) (o : Opening) (faults sessions : ℕ) (c : Scene) (members : List Member) (events : List Event) (halt : Option Halt) (stops : List Bool) (spare : ℕ) : Type 0 where
   pub sound : IsSound M told o faults c members events halt
+  pub whole : halt ≡ None → AreWhole members
   pub count : length members ≡ sessions
   pub few : sessions ≤ 16
   pub mortal : MayFail o

@@ -10,7 +10,7 @@ ghost use Rattle.line_account.specs.stage_steps.Deaths.{life_behind as life_behi
 ghost use Rattle.line_account.specs.stage_steps.Scenes.{scene};
 ghost use Rattle.line_cluster.specs.Deaths.{CountsFaults, device_deaths, faults_of, is_device, is_stop, lives_in};
 ghost use Rattle.lent_members.specs.Going.{IsDeadAt, with_life};
-ghost use Rattle.line_cluster.specs.Sound.{IsSound, IsOneOf};
+ghost use Rattle.line_cluster.specs.Sound.{AreWhole, IsSound, IsOneOf};
 ghost use Rattle.line_cluster.specs.Turned.{DeathCame, GoesOn, RecoveryCame, sessions};
 
 use crate::origin::Origin;
@@ -57,8 +57,10 @@ impl<O: Origin + Naming, S: Reserves + Reaches, L: LineStore> Core<O, S, L> {
         requires own { is_device cause ≡ false }
         requires stops { stops ≡ O.opening.stops s.number }
         requires sound { IsSound S.stands O.told O.opening O.faults (scene self.old.common.word (L.sight self.old.common.store) self.old.common.tree) self.old.members.items (map event_of self.old.events.items) self.old.halt }
+        requires unbroken { self.old.halt ≡ None → AreWhole self.old.members.items }
         requires kept { lives_in self.old.members.items ≤ vec_capacity self.old.events - vec_len self.old.events }
         ensures sound { IsSound S.stands O.told O.opening O.faults (scene self.new.common.word (L.sight self.new.common.store) self.new.common.tree) self.new.members.items (map event_of self.new.events.items) self.new.halt }
+        ensures unbroken { self.new.halt ≡ None → AreWhole self.new.members.items }
         ensures kept { lives_in self.new.members.items ≤ vec_capacity self.new.events - vec_len self.new.events }
         ensures count { length self.new.members.items ≡ length self.old.members.items }
         ensures came { DeathCame O.opening.stops s.number cause (sessions self.old.members.items self.old.events.items self.old.allotments (L.sight self.old.common.store) self.old.common.tree self.old.halt) (sessions self.new.members.items self.new.events.items self.new.allotments (L.sight self.new.common.store) self.new.common.tree self.new.halt) }
@@ -101,8 +103,10 @@ impl<O: Origin + Naming, S: Reserves + Reaches, L: LineStore> Core<O, S, L> {
     pub fn recover(&mut self) -> Turn
         requires few { length self.old.members.items ≤ 16 }
         requires sound { IsSound S.stands O.told O.opening O.faults (scene self.old.common.word (L.sight self.old.common.store) self.old.common.tree) self.old.members.items (map event_of self.old.events.items) self.old.halt }
+        requires unbroken { self.old.halt ≡ None → AreWhole self.old.members.items }
         requires kept { lives_in self.old.members.items ≤ vec_capacity self.old.events - vec_len self.old.events }
         ensures sound { IsSound S.stands O.told O.opening O.faults (scene self.new.common.word (L.sight self.new.common.store) self.new.common.tree) self.new.members.items (map event_of self.new.events.items) self.new.halt }
+        ensures unbroken { self.new.halt ≡ None → AreWhole self.new.members.items }
         ensures kept { lives_in self.new.members.items ≤ vec_capacity self.new.events - vec_len self.new.events }
         ensures count { length self.new.members.items ≡ length self.old.members.items }
         ensures came { RecoveryCame (sessions self.old.members.items self.old.events.items self.old.allotments (L.sight self.old.common.store) self.old.common.tree self.old.halt) (sessions self.new.members.items self.new.events.items self.new.allotments (L.sight self.new.common.store) self.new.common.tree self.new.halt) result }
@@ -120,10 +124,12 @@ impl<O: Origin + Naming, S: Reserves + Reaches, L: LineStore> Core<O, S, L> {
     fn recover_at(&mut self, at: usize) -> Turn
         requires few { length self.old.members.items ≤ 16 }
         requires sound { IsSound S.stands O.told O.opening O.faults (scene self.old.common.word (L.sight self.old.common.store) self.old.common.tree) self.old.members.items (map event_of self.old.events.items) self.old.halt }
+        requires unbroken { AreWhole self.old.members.items }
         requires kept { lives_in self.old.members.items ≤ vec_capacity self.old.events - vec_len self.old.events }
         requires going { self.old.halt ≡ None }
         requires dead { IsDeadAt self.old.members.items at }
         ensures sound { IsSound S.stands O.told O.opening O.faults (scene self.new.common.word (L.sight self.new.common.store) self.new.common.tree) self.new.members.items (map event_of self.new.events.items) self.new.halt }
+        ensures unbroken { AreWhole self.new.members.items }
         ensures kept { lives_in self.new.members.items ≤ vec_capacity self.new.events - vec_len self.new.events }
         ensures count { length self.new.members.items ≡ length self.old.members.items }
         ensures came { RecoveryCame (sessions self.old.members.items self.old.events.items self.old.allotments (L.sight self.old.common.store) self.old.common.tree self.old.halt) (sessions self.new.members.items self.new.events.items self.new.allotments (L.sight self.new.common.store) self.new.common.tree self.new.halt) result }

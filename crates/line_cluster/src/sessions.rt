@@ -17,7 +17,7 @@ pub enum Halt {
     Device(Fault),
     /// The store has no place for this line, which a statement wrote.
     Unlaid(Dbkey),
-    /// Who works statements doesn't work this one, or the store can't go on with its change.
+    /// Who works statements doesn't work this one.
     Unworked,
     /// What a session knows agrees with no sound database: this line is none of its kind.
     Unsound(Dbkey),

@@ -15,7 +15,7 @@ ghost use Rattle.line_account.specs.stage_steps.Nearer.{is_patient_at};
 ghost use Rattle.line_account.specs.stage_steps.Scenes.{scene};
 ghost use Rattle.line_cluster.specs.Asleep.{sleeps};
 ghost use Rattle.line_cluster.specs.Deaths.{faults_in, is_device, is_own, lives_in};
-ghost use Rattle.line_cluster.specs.Sound.{IsSound, IsOneOf, MayFail, is_over_slot, is_unsound};
+ghost use Rattle.line_cluster.specs.Sound.{AreWhole, IsSound, IsOneOf, MayFail, is_over_slot, is_unsound};
 ghost use Rattle.lent_members.specs.Going.{IsWriterAt, is_over as is_over_at, with_life};
 ghost use Rattle.line_cluster.specs.Turned.{Came, GoesOn, GrowsQuietly, Rests, Waits, sessions};
 ghost use Rattle.std.specs.Vec.{vec_len, vec_capacity};
@@ -65,8 +65,10 @@ impl<O: Origin + Naming, S: Reserves + Reaches, L: LineStore> Core<O, S, L> {
         requires mortal { MayFail O.opening }
         requires stops { stops ≡ O.opening.stops s.number }
         requires sound { IsSound S.stands O.told O.opening O.faults (scene self.old.common.word (L.sight self.old.common.store) self.old.common.tree) self.old.members.items (map event_of self.old.events.items) self.old.halt }
+        requires unbroken { self.old.halt ≡ None → AreWhole self.old.members.items }
         requires kept { lives_in self.old.members.items ≤ vec_capacity self.old.events - vec_len self.old.events }
         ensures sound { IsSound S.stands O.told O.opening O.faults (scene self.new.common.word (L.sight self.new.common.store) self.new.common.tree) self.new.members.items (map event_of self.new.events.items) self.new.halt }
+        ensures unbroken { self.new.halt ≡ None → AreWhole self.new.members.items }
         ensures kept { lives_in self.new.members.items ≤ vec_capacity self.new.events - vec_len self.new.events }
         ensures count { length self.new.members.items ≡ length self.old.members.items }
         ensures came { Came O.opening.stops s.number (sessions self.old.members.items self.old.events.items self.old.allotments (L.sight self.old.common.store) self.old.common.tree self.old.halt) (sessions self.new.members.items self.new.events.items self.new.allotments (L.sight self.new.common.store) self.new.common.tree self.new.halt) result }
@@ -104,10 +106,12 @@ impl<O: Origin + Naming, S: Reserves + Reaches, L: LineStore> Core<O, S, L> {
         requires whole { is_device cause ≡ false }
         requires mortal { (m : MemberValue) → slice_get self.old.members.items at ≡ Some m → may_die_in O.opening s.number m.left m.phase cause ≡ true }
         requires sound { IsSound S.stands O.told O.opening O.faults (scene self.old.common.word (L.sight self.old.common.store) self.old.common.tree) self.old.members.items (map event_of self.old.events.items) self.old.halt }
+        requires unbroken { AreWhole self.old.members.items }
         requires kept { lives_in self.old.members.items ≤ vec_capacity self.old.events - vec_len self.old.events }
         requires going { self.old.halt ≡ None }
         requires work { (m : MemberValue) → slice_get self.old.members.items at ≡ Some m → is_over_at stops m m.life ≡ false }
         ensures sound { IsSound S.stands O.told O.opening O.faults (scene self.new.common.word (L.sight self.new.common.store) self.new.common.tree) self.new.members.items (map event_of self.new.events.items) self.new.halt }
+        ensures unbroken { AreWhole self.new.members.items }
         ensures kept { lives_in self.new.members.items ≤ vec_capacity self.new.events - vec_len self.new.events }
         ensures count { length self.new.members.items ≡ length self.old.members.items }
         ensures came { Came O.opening.stops s.number (sessions self.old.members.items self.old.events.items self.old.allotments (L.sight self.old.common.store) self.old.common.tree self.old.halt) (sessions self.new.members.items self.new.events.items self.new.allotments (L.sight self.new.common.store) self.new.common.tree self.new.halt) result }
@@ -202,6 +206,7 @@ impl<O: Origin + Naming, S: Reserves + Reaches, L: LineStore> Core<O, S, L> {
         requires one { IsOneOf self.old.members.items s.number }
         requires at { at ≡ s.number - 1 }
         requires sound { IsSound S.stands O.told O.opening O.faults (scene self.old.common.word (L.sight self.old.common.store) self.old.common.tree) self.old.members.items (map event_of self.old.events.items) self.old.halt }
+        requires unbroken { AreWhole self.old.members.items }
         requires going { self.old.halt ≡ None }
         requires lives { dead_in self.old.members.items ≡ 0 }
         requires mortal { MayFail O.opening }
@@ -210,6 +215,7 @@ impl<O: Origin + Naming, S: Reserves + Reaches, L: LineStore> Core<O, S, L> {
         requires work { (m : MemberValue) → slice_get self.old.members.items at ≡ Some m → is_done m.left m.phase ≡ false }
         requires alive { (m : MemberValue) → slice_get self.old.members.items at ≡ Some m → m.life ≡ Alive }
         ensures sound { IsSound S.stands O.told O.opening O.faults (scene self.new.common.word (L.sight self.new.common.store) self.new.common.tree) self.new.members.items (map event_of self.new.events.items) self.new.halt }
+        ensures unbroken { self.new.halt ≡ None → AreWhole self.new.members.items }
         ensures kept { lives_in self.new.members.items ≤ vec_capacity self.new.events - vec_len self.new.events }
         ensures count { length self.new.members.items ≡ length self.old.members.items }
         ensures came { Came O.opening.stops s.number (sessions self.old.members.items self.old.events.items self.old.allotments (L.sight self.old.common.store) self.old.common.tree self.old.halt) (sessions self.new.members.items self.new.events.items self.new.allotments (L.sight self.new.common.store) self.new.common.tree self.new.halt) result }

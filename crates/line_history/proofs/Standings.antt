@@ -1,13 +1,14 @@
 -- A statement of a read-write transaction that doesn't end it leaves it the standing of one.
 use Rattle.std.proofs.Common.{◌≡◌, ℕ, ◌&&◌, if◌then◌else◌, cond, Bool, true, false, List, [], ◌∷◌, refl, ap, sym, subst, ◌∙◌, arith, Option, Some, None}
 use Rattle.std.proofs.lemmas.Bool.{false≢true}
+use Rattle.std.proofs.lemmas.Option.{none-some}
 use Rattle.rdb_types.specs.declared.keys.Dbkey.{Dbkey}
 use Rattle.rdo_ast.specs.declared.reply.Reply.{Reply}
 use Rattle.rdo_ast.specs.declared.reply.Reply.TheVariants as r
 use Rattle.rdo_ast.specs.declared.reply.Standing.{Standing}
 use Rattle.rdo_ast.specs.declared.reply.Standing.TheVariants.{Closed, ReadOnly, ReadWrite}
 use Rattle.rdo_ast.specs.declared.syntax.Reservation.{Reservation}
-use Rattle.rdo_ast.specs.Tree.{Name, Act, Uttered, said, syntax_fault, invoke, start_read_only, start_read_write, commit, rollback, finish, perform, define_field, define_relation, define_index, delete_relation, delete_index}
+use Rattle.rdo_ast.specs.Tree.{Name, Act, Uttered, said, syntax_fault, invoke, start_read_only, start_read_write, commit, rollback, finish, back_up, perform, define_field, define_relation, define_index, delete_relation, delete_index}
 use Rattle.rdb_meaning.specs.declared.tables.Relation.{Relation}
 use Rattle.rdb_meaning.specs.declared.tables.Tables.{Tables}
 use Rattle.rdb_meaning.specs.Contents.{relation_named}
@@ -17,7 +18,7 @@ use Rattle.rdb_meaning.specs.Defining.{is_among}
 use Rattle.rdb_meaning.specs.Execution.{Ran, ran, refused, astray, done, world}
 use Rattle.rdb_meaning.specs.Meaning.{Meaning, means, meaningless, meaning, doing, unless, after_running, standing_for, act_refusal, command_refusal, reserved_names, after as tables_after}
 use Rattle.rdb_account.specs.Places.{begins, leaves_none, is_done, is_writer}
-use Rattle.rdb_account.specs.Legal.{ends_by}
+use Rattle.rdb_account.specs.Legal.{ends_by, ends_its_own}
 use Rattle.session_jobs.specs.Asked.{locks, is_writing_kind}
 
 -- unless the item ends it, the transaction stays a read-write one
@@ -48,6 +49,7 @@ all-stay word wait rs (said (start_read_write w us)) ks t = λ e. refl
 all-stay word wait rs (said commit) ks t = λ e. absurd (false≢true (sym e))
 all-stay word wait rs (said rollback) ks t = λ e. absurd (false≢true (sym e))
 all-stay word wait rs (said finish) ks t = λ e. refl
+all-stay word wait rs (said (back_up n)) ks t = λ e. refl
 all-stay word wait rs (said (perform a)) ks t =
     let running = done a t [] (world t ks []) in
     unless-stays (said (perform a)) (act_refusal a (ReadWrite wait rs) t) t (standing_for a (ReadWrite wait rs)) ks (after_running running t (standing_for a (ReadWrite wait rs)) ks) (act-standing a wait rs)
@@ -110,6 +112,7 @@ starts-writer word kind behind (said (start_read_write wait rs)) ks t left reply
 starts-writer word kind behind (said commit) ks t left reply h w m done = absurd (grind arith)
 starts-writer word kind behind (said rollback) ks t left reply h w m done = absurd (grind arith)
 starts-writer word kind behind (said finish) ks t left reply h w m done = absurd (grind arith)
+starts-writer word kind behind (said (back_up n)) ks t left reply h w m done = absurd (grind arith)
 starts-writer word kind behind (said (perform a)) ks t left reply h w m done = reads-none (is_retrieval a) kind h w
 starts-writer word kind behind (said (define_field n type)) ks t left reply h w m done = absurd (grind arith)
 starts-writer word kind behind (said (define_relation n fs)) ks t left reply h w m done = absurd (grind arith)
@@ -126,12 +129,34 @@ starts-leaves (said (start_read_write wait rs)) kind h w = refl
 starts-leaves (said commit) kind h w = absurd (grind arith)
 starts-leaves (said rollback) kind h w = absurd (grind arith)
 starts-leaves (said finish) kind h w = absurd (grind arith)
+starts-leaves (said (back_up n)) kind h w = refl
 starts-leaves (said (perform a)) kind h w = reads-none (is_retrieval a) kind h w
 starts-leaves (said (define_field n type)) kind h w = absurd (grind arith)
 starts-leaves (said (define_relation n fs)) kind h w = absurd (grind arith)
 starts-leaves (said (define_index d)) kind h w = absurd (grind arith)
 starts-leaves (said (delete_relation n)) kind h w = absurd (grind arith)
 starts-leaves (said (delete_index n)) kind h w = absurd (grind arith)
+
+-- ---- an online backup
+
+abbrev is_done_by : Meaning → Bool
+is_done_by (means reply t standing ks) = is_done reply
+is_done_by meaningless = false
+
+-- it isn't done in a read-write transaction,
+pub ends-alone : (word : List ℕ) (standing behind : Standing) (item : Uttered) (ks : List Dbkey) (t left : Tables) (reply : Reply) → is_writer standing ≡ true →
+    meaning word standing item ks t ≡ means reply left behind [] → (ends_by item && is_done reply) ≡ false → (ends_its_own item && is_done reply) ≡ false
+ends-alone word Closed behind item ks t left reply writes m ends = absurd (false≢true writes)
+ends-alone word ReadOnly behind item ks t left reply writes m ends = absurd (false≢true writes)
+ends-alone word (ReadWrite wait rs) behind (said (back_up n)) ks t left reply writes m ends = sym (ap is_done_by m)
+ends-alone word (ReadWrite wait rs) behind item ks t left reply writes m ends = ends
+
+-- and begins none
+pub starts-ends : (item : Uttered) (kind : Standing) → begins item ≡ Some kind → is_writer kind ≡ true → ends_its_own item ≡ false
+starts-ends (said (back_up n)) kind h w = absurd (grind arith)
+starts-ends (said commit) kind h w = absurd (none-some kind h)
+starts-ends (said rollback) kind h w = absurd (none-some kind h)
+starts-ends item kind h w = refl
 
 -- a refusal by a lock, a limit or memory isn't done
 pub excused-undone : (reply : Reply) → is_refusal_of_means reply ≡ true → is_done reply ≡ false

@@ -18,7 +18,7 @@ ghost use Rattle.line_view.specs.Writes.{laid_all};
 ghost use Rattle.rdb_account.specs.Places.{Opening, Place, Transaction, Line, IsTold, begins, is_done, is_writer, next_item, retold};
 ghost use Rattle.rdb_account.specs.Lawful.{IsExcused, first_refusal, has_cause};
 ghost use Rattle.rdb_account.specs.AskedFor.{IsAskedFor, command_asks, reservations_ask, is_on_journal};
-ghost use Rattle.rdb_account.specs.Legal.{IsReply, ends_by};
+ghost use Rattle.rdb_account.specs.Legal.{IsReply, ends_by, ends_its_own};
 ghost use Rattle.kept_apart.specs.Guards.{AreOwn};
 ghost use Rattle.kept_apart.specs.Alike.{GuardsMore, IsGuarded};
 ghost use Rattle.session_jobs.specs.Records.{Worked, IsRight};
@@ -55,10 +55,12 @@ pub fn needs_are_asked_for<S: Statements>()
 {}
 
 /// A statement leaves a read-write transaction open as one unless it is the COMMIT or ROLLBACK that is done, and so does the
-/// START_TRANSACTION that is done and begins it. Such a statement takes locks.
+/// START_TRANSACTION that is done and begins it. Such a statement takes locks. An online backup neither is done there nor begins one.
 pub fn standings_stay_read_write()
     ensures stays { (word : List ℕ) (standing behind : Standing) (item : Uttered) (ks : List Dbkey) (t left : Tables) (reply : Reply) → is_writer standing ≡ true → meaning word standing item ks t ≡ means reply left behind [] → (ends_by item && is_done reply) ≡ false → is_writer behind ≡ true }
     ensures starts { (word : List ℕ) (kind behind : Standing) (item : Uttered) (ks : List Dbkey) (t left : Tables) (reply : Reply) → begins item ≡ Some kind → is_writer kind ≡ true → meaning word Closed item ks t ≡ means reply left behind [] → is_done reply ≡ true → is_writer behind ≡ true }
+    ensures alone { (word : List ℕ) (standing behind : Standing) (item : Uttered) (ks : List Dbkey) (t left : Tables) (reply : Reply) → is_writer standing ≡ true → meaning word standing item ks t ≡ means reply left behind [] → (ends_by item && is_done reply) ≡ false → (ends_its_own item && is_done reply) ≡ false }
+    ensures start_alone { (item : Uttered) (kind : Standing) → begins item ≡ Some kind → is_writer kind ≡ true → ends_its_own item ≡ false }
     ensures locks { (standing : Standing) (item : Uttered) → is_writer standing ≡ true → locks standing item ≡ true }
     ensures start_locks { (item : Uttered) (kind : Standing) → begins item ≡ Some kind → is_writer kind ≡ true → locks Closed item ≡ true }
 {}

@@ -1,3 +1,4 @@
+mod Backups
 mod Later
 mod Opening
 mod Prefix

@@ -1,5 +1,5 @@
 -- A run opens over the store of an opened disk.
-use Rattle.std.proofs.Common.{◌≡◌, ◌≤◌, ℕ, List, Option, Some, arith}
+use Rattle.std.proofs.Common.{◌≡◌, ◌≤◌, ℕ, List, Option, Some, None, arith}
 use Rattle.rdb_outside.specs.Disk.{Image}
 use Rattle.line_view.specs.Knowledge.{Lines}
 use Rattle.stable_lines.specs.Journal.{Journal}
@@ -21,8 +21,8 @@ pub at-moment : (image : Image) (journal : Journal) (moment : ℕ) (o : Opening)
 at-moment image journal moment o h = record { root = h.root; is = h.is; limits = h.limits; owners = h.owners; slots = h.slots; past = from-none o.moment moment h.past }
 
 -- Where one sight shows what another does, an account that opens with that opens with this.
-pub same-shown : (M : Model) (o : Opening) (faults : ℕ) (word : List ℕ) (old new : Sight) → ((h : Shelf) → old.shows h → new.shows h) → IsOpenedBy M o faults word old → IsOpenedBy M o faults word new
-same-shown M o faults word old new shows h = record { shelf = h.shelf; shown = shows h.shelf h.shown; no_fewer = h.no_fewer; opened = h.opened }
+pub same-shown : (M : Model) (o : Opening) (faults : ℕ) (word : List ℕ) (old new : Sight) → ((h : Shelf) → old.shows h → new.shows h) → ((n : ℕ) → new.copier n ≡ None) → IsOpenedBy M o faults word old → IsOpenedBy M o faults word new
+same-shown M o faults word old new shows none h = record { shelf = h.shelf; shown = shows h.shelf h.shown; no_fewer = h.no_fewer; copiers = none; opened = h.opened }
 
 -- and one that begins from an image begins from it there
 pub begins-shown : (image : Image) (lines : Lines) (journal : Journal) (old new : Sight) → ((h : Shelf) → old.shows h → new.shows h) → BeginsFrom image lines journal old → BeginsFrom image lines journal new

@@ -15,10 +15,10 @@ use Rattle.store_shows.specs.Shows.{Leaves}
 use Rattle.store_shows.proofs.Standing.{may_stand}
 use Rattle.opened_store.specs.disk_store.Memory.{StoreMemory}
 use Rattle.opened_store.specs.disk_store.Shown.{Shown}
-use Rattle.disk_line_store.specs.Back.{IsBack}
+use Rattle.disk_line_store.specs.Back.{IsBack, ShownBack}
 use Rattle.opened_store.proofs.of_disk_store.Agreeing.{agreeing, shown-opens}
 use Rattle.line_store.specs.Seats.{outside, in_flight}
-use Rattle.line_store.specs.Shelves.{Shelf}
+use Rattle.line_store.specs.Shelves.{Clock, Shelf}
 use Rattle.line_store.specs.Calls.{MayStand}
 use Rattle.line_store.specs.Sights.{Sight, bare}
 use Rattle.session_jobs.specs.Records.{Model}
@@ -32,34 +32,42 @@ use Rattle.line_runs.specs.Prefix.{GaveUp, HoldsAll, HoldsPrefix, StandsFor}
 leaves-now : (v : View) (held : StoreMemory) (h : Shelf) → Shown v held h → (image : Image) (lines : Lines) → LeftNow v image → HasLines image lines → Leaves v h.clock.time lines
 leaves-now v held h shown image lines left has = record { image = image; left = subst (λ (t : ℕ). v.left_since t image) (sym shown.lines.time) left; stands = has }
 
+-- the time and the faults of a shelf that the store showed are the disk's
+pub same-time : (v : View) (sight : Sight) (back : IsBack sight v) (h : Shelf) → sight.shows h → h.clock.time ≡ v.moment
+same-time v sight back h shown = let it : ShownBack v back.held h = back.shows h shown in ap (λ (clock : Clock). clock.time) (sym it.clock) ∙ it.shown.lines.time
+
+same-faults : (v : View) (sight : Sight) (back : IsBack sight v) (h : Shelf) → sight.shows h → h.clock.faults ≡ v.faults
+same-faults v sight back h shown = let it : ShownBack v back.held h = back.shows h shown in ap (λ (clock : Clock). clock.faults) (sym it.clock) ∙ it.shown.lines.faults
+
 -- the faults that the store counted are the disk's
 pub harmed : (v : View) (sight : Sight) → IsBack sight v → (faults more : ℕ) → CountsFaults faults more sight → RoseBy more faults v.faults
-harmed v sight back faults more k = subst (λ (n : ℕ). RoseBy more faults n) (back.shows k.shelf k.shown).lines.faults k.rose
+harmed v sight back faults more k = subst (λ (n : ℕ). RoseBy more faults n) (same-faults v sight back k.shelf k.shown) k.rose
 
 -- it counted them as it opened
 pub no-fewer : (M : Model) (o : Opening) (v : View) (sight : Sight) → IsBack sight v → (faults : ℕ) (word : List ℕ) → IsOpenedBy M o faults word sight → faults ≤ v.faults
-no-fewer M o v sight back faults word is = subst (λ (n : ℕ). faults ≤ n) (back.shows is.shelf is.shown).lines.faults is.no_fewer
+no-fewer M o v sight back faults word is = subst (λ (n : ℕ). faults ≤ n) (same-faults v sight back is.shelf is.shown) is.no_fewer
 
 -- the numbers that it had used up, its root has
 pub spent-root : (v : View) (sight : Sight) → IsBack sight v → ShowsSpent sight → HasSpent v
 spent-root v sight back k content root p is =
-    let shown = back.shows k.shelf k.shown in
-    let below = shown.numbers.ceiling.pending content root p is in
-    omega (arith, k.spent, shown.promised, below)
+    let it : ShownBack v back.held k.shelf = back.shows k.shelf k.shown in
+    let below = it.shown.numbers.ceiling.pending content root p is in
+    let promised : k.shelf.clock.promised ≡ back.held.numbers.ceiling = ap (λ (clock : Clock). clock.promised) (sym it.clock) ∙ it.shown.promised in
+    omega (arith, k.spent, promised, below)
 
 module _ (M : Model) (o : Opening) (v : View) (events : List Event) (sight : Sight) (back : IsBack sight v) where
   pub holds-prefix : HasImages M o sight events → HoldsPrefix M o v events
   holds-prefix has = record {
-    tells = (back.shows has.shelf has.shown).tells;
+    tells = (back.shows has.shelf has.shown).shown.tells;
     now = λ image l.
-        let shown = back.shows has.shelf has.shown in
-        let it = shown-opens v back.held has.shelf shown image (each_slot v image l) in
-        record { lines = it.0; opens = it.1; stands = has.now it.0 (back.left has.shelf.clock.time it.0 (leaves-now v back.held has.shelf shown image it.0 l it.1.has)) };
+        let its : ShownBack v back.held has.shelf = back.shows has.shelf has.shown in
+        let it = shown-opens v back.held its.plain its.shown image (each_slot v image l) in
+        record { lines = it.0; opens = it.1; stands = has.now it.0 (back.left has.shelf.clock.time it.0 (subst (λ (clock : Clock). Leaves v clock.time it.0) its.clock (leaves-now v back.held its.plain its.shown image it.0 l it.1.has))) };
     since = λ k c found image l lines is. has.since.each k c found lines (back.left c.moment lines (record { image = image; left = l; stands = is }));
     began = has.since.began;
     opened = has.since.opened;
-    going = subst (λ (t : ℕ). has.since.began ≤ t) (back.shows has.shelf has.shown).lines.time has.since.going;
-    past = λ k c found. subst (λ (t : ℕ). c.moment ≤ t) (back.shows has.shelf has.shown).lines.time (has.since.past k c found);
+    going = subst (λ (t : ℕ). has.since.began ≤ t) (same-time v sight back has.shelf has.shown) has.since.going;
+    past = λ k c found. subst (λ (t : ℕ). c.moment ≤ t) (same-time v sight back has.shelf has.shown) (has.since.past k c found);
     later = has.since.later;
     opening = λ image l lines is. has.since.opening lines (back.left has.since.began lines (record { image = image; left = l; stands = is }));
     openable = back.opens has.since.began has.since.openable;
@@ -67,18 +75,20 @@ module _ (M : Model) (o : Opening) (v : View) (events : List Event) (sight : Sig
 
   pub holds-all : IsLeft M o sight events → ((s : ℕ) → bare (sight.stand s) ≡ outside) → HoldsAll M o v events
   holds-all it rests = record {
-    tells = (back.shows it.shelf it.shown).tells;
+    tells = its.shown.tells;
     each = λ image pending.
-        let shown = back.shows it.shelf it.shown in
-        let has = shown-opens v back.held it.shelf shown image pending in
-        (has.0, has.1, still has.0 (may_stand v shown.ledger it.shelf shown.facts shown.lines image has.0 pending has.1.has));
+        let has = shown-opens v back.held its.plain its.shown image pending in
+        (has.0, has.1, still has.0 (may_stand v its.shown.ledger its.plain its.shown.facts its.shown.lines image has.0 pending has.1.has));
   }
     where
-      idle : (s : ℕ) → it.shelf.seat s ≡ outside
-      idle s = outside-seat (it.shelf.seat s) (sym (agreeing v back.held it.shelf (back.shows it.shelf it.shown) s) ∙ (ap bare (sym (back.stand s)) ∙ rests s))
+      its : ShownBack v back.held it.shelf
+      its = back.shows it.shelf it.shown
 
-      still : (lines : Lines) → MayStand it.shelf lines → M lines (place o events).tables
-      still lines (inl is) = subst (λ (x : Lines). M x (place o events).tables) (sym is) it.stands
+      idle : (s : ℕ) → its.plain.seat s ≡ outside
+      idle s = outside-seat (its.plain.seat s) (sym (agreeing v back.held its.plain its.shown s) ∙ ap bare (back.stand s (outside-seat (sight.stand s) (rests s))))
+
+      still : (lines : Lines) → MayStand its.plain lines → M lines (place o events).tables
+      still lines (inl is) = subst (λ (x : Lines). M x (place o events).tables) (sym (is ∙ its.now)) it.stands
       still lines (inr (s, ws, flies, is)) = absurd (none-some ws (sym (ap in_flight (idle s)) ∙ flies))
 
 -- ---- an opening that gave up

@@ -1,5 +1,5 @@
 -- A session dies, and is recovered.
-use Rattle.std.proofs.Common.{◌≡◌, ◌≤◌, ℕ, ◌+◌, ◌-◌, ◌++◌, ◌∷◌, [], ◌&&◌, not, true, false, List, length, refl, sym, ap, subst, Option, Some, None}
+use Rattle.std.proofs.Common.{◌≡◌, ◌≤◌, ℕ, ◌+◌, ◌-◌, ◌++◌, ◌∷◌, [], true, false, List, length, refl, sym, ap, subst, Option, Some, None}
 use Rattle.rdb_types.specs.declared.session.Cause.{Cause}
 use Rattle.rdo_ast.specs.declared.reply.Standing.{Standing}
 use Rattle.rdo_ast.specs.Tree.{Uttered, said, commit}

@@ -1,13 +1,13 @@
 -- A read-only transaction begins, learns, and ends.
-use Rattle.std.proofs.Common.{◌≡◌, ◌≤◌, ℕ, ◌+◌, ◌∷◌, [], false, List, refl, ◌∙◌, sym, ap, subst, Option, Some, None}
+use Rattle.std.proofs.Common.{◌≡◌, ◌≤◌, ℕ, ◌+◌, ◌==◌, ◌∷◌, [], true, false, List, length, refl, ◌∙◌, sym, ap, subst, arith, Option, Some, None}
 use Rattle.rdo_ast.specs.declared.reply.Reply.TheVariants as r
 use Rattle.rdo_ast.specs.declared.reply.Standing.{Standing}
 use Rattle.rdo_ast.specs.declared.reply.Standing.TheVariants.{Closed, ReadOnly}
-use Rattle.rdo_ast.specs.Tree.{Uttered, said, commit}
+use Rattle.rdo_ast.specs.Tree.{Uttered, said, commit, back_up}
 use Rattle.line_view.specs.Knowledge.{Knowledge, Agrees}
 use Rattle.rdb_account.specs.Events.{Began, Said, Committed}
-use Rattle.rdb_account.specs.Places.{Opening, Place, Transaction, commit_reply, at, after, begins, begun, is_writer, asks_of_others}
-use Rattle.rdb_account.specs.Legal.{May}
+use Rattle.rdb_account.specs.Places.{Opening, Place, Transaction, Line, commit_reply, at, after, begins, begun, is_writer, asks_of_others}
+use Rattle.rdb_account.specs.Legal.{May, MayCommitBy, standing_of_reader}
 use Rattle.line_history.proofs.of_kept_apart.Alike.{alike-refl}
 use Rattle.line_history.specs.session_jobs.Records.{Model, IsOrderly}
 use Rattle.line_history.specs.Transactions.{IsReading}
@@ -99,26 +99,48 @@ module _ (M : Model) (orderly : IsOrderly M) where
   reader-place : (o : Opening) (p : Place) (s : ℕ) (x : Transaction) (moment : ℕ) → p.transaction s ≡ Some x → is_writer x.kind ≡ false → after o p (Committed s moment) ≡ behind_reader p s moment
   reader-place o p s x moment is_open reads = rw is_open (rw reads refl)
 
+  -- it ends with its statement, where that may be
+  reader-ends : (o : Opening) (p : Place) (g : Ground) (s : ℕ) (left : List Uttered) (total : ℕ) (standing : Standing) (item : Uttered) (d : Desk) (moment : ℕ) →
+      (h : Here M o p g s (member left (reading standing (Some item)) total)) → MayCommitBy o p s (p.transaction s) → p.moment ≤ moment → moment ≤ g.time →
+      Steps M o p g s (member left outside total) (with_desk s d g) (Committed s moment ∷ Said s item [] (r.Done []) ∷ [])
+  reader-ends o p g s left total standing item d moment h may past later =
+      let w = h.stands.state in
+      let m = member left (reading standing (Some item)) total in
+      let q = behind_reader p s moment in
+      let there = reader-place o p s w.transaction moment w.is_open w.reads in
+      let next = next-is M o p g s m item left h.stands refl in
+      record {
+        may = (
+          (ready p s h.awake h.free h.stands.lives, past, may),
+          (subst (λ (y : Place). May o y (Said s item [] (r.Done []))) (sym there) (next, (refl, refl, refl)), tt),
+        );
+        own = (refl, (refl, tt));
+        to = answered_outside q s;
+        leads = ap (λ y. after o y (Said s item [] (r.Done []))) there ∙ answer-place o q s item (at-same s None p.transaction);
+        settled = refl;
+        fit = fit-with M p (answered_outside q s) g (with_desk s d g) s None refl h.fit.dead later h.fit.order h.fit.stands (λ t other. apart-none p t) h.fit;
+        stands = stands-said M o p (answered_outside q s) g (with_desk s d g) s m (member left outside total) item h.stands refl refl (at-same s (p.said s + 1) p.said) h.stands.lives (at-same s None p.transaction);
+        desks = desk-other s d g;
+        alike = λ t other. alike-refl (needs_at p t) g.now;
+      }
+
   pub reader-commits : (o : Opening) (p : Place) (g : Ground) (s : ℕ) (left : List Uttered) (total : ℕ) (standing : Standing) (d : Desk) (moment : ℕ) →
       (h : Here M o p g s (member left (reading standing (Some (said commit))) total)) → p.moment ≤ moment → moment ≤ g.time →
       Steps M o p g s (member left outside total) (with_desk s d g) (Committed s moment ∷ Said s (said commit) [] (r.Done []) ∷ [])
   reader-commits o p g s left total standing d moment h past later =
       let w = h.stands.state in
-      let m = member left (reading standing (Some (said commit))) total in
-      let q = behind_reader p s moment in
-      let there = reader-place o p s w.transaction moment w.is_open w.reads in
-      let next = next-is M o p g s m (said commit) left h.stands refl in
-      record {
-        may = (
-          (ready p s h.awake h.free h.stands.lives, past, rw w.is_open (rw w.reads (rw next refl))),
-          (subst (λ (y : Place). May o y (Said s (said commit) [] (r.Done []))) (sym there) (next, (refl, refl, refl)), tt),
-        );
-        own = (refl, (refl, tt));
-        to = answered_outside q s;
-        leads = ap (λ y. after o y (Said s (said commit) [] (r.Done []))) there ∙ answer-place o q s (said commit) (at-same s None p.transaction);
-        settled = refl;
-        fit = fit-with M p (answered_outside q s) g (with_desk s d g) s None refl h.fit.dead later h.fit.order h.fit.stands (λ t other. apart-none p t) h.fit;
-        stands = stands-said M o p (answered_outside q s) g (with_desk s d g) s m (member left outside total) (said commit) h.stands refl refl (at-same s (p.said s + 1) p.said) h.stands.lives (at-same s None p.transaction);
-        desks = desk-other s d g;
-        alike = λ t other. alike-refl (needs_at p t) g.now;
-      }
+      let next = next-is M o p g s (member left (reading standing (Some (said commit))) total) (said commit) left h.stands refl in
+      reader-ends o p g s left total standing (said commit) d moment h (rw w.is_open (rw w.reads (rw next refl))) past later
+
+  none-said : (lines : List Line) → standing_of_reader lines ≡ Closed → (length lines == 0) ≡ true
+  none-said [] closed = refl
+  none-said (l ∷ ls) closed = absurd (grind arith)
+
+  -- An online backup in which nothing was said ends with its statement too.
+  pub reader-copies : (o : Opening) (p : Place) (g : Ground) (s : ℕ) (left : List Uttered) (total : ℕ) (n : ℕ) (d : Desk) (moment : ℕ) →
+      (h : Here M o p g s (member left (reading Closed (Some (said (back_up n)))) total)) → p.moment ≤ moment → moment ≤ g.time →
+      Steps M o p g s (member left outside total) (with_desk s d g) (Committed s moment ∷ Said s (said (back_up n)) [] (r.Done []) ∷ [])
+  reader-copies o p g s left total n d moment h past later =
+      let w = h.stands.state in
+      let next = next-is M o p g s (member left (reading Closed (Some (said (back_up n)))) total) (said (back_up n)) left h.stands refl in
+      reader-ends o p g s left total Closed (said (back_up n)) d moment h (rw w.is_open (rw w.reads (rw next (none-said w.transaction.lines w.has_standing)))) past later

@@ -1,6 +1,6 @@
 -- A statement is answered in its transaction.
 use Rattle.std.proofs.Common.{◌≡◌, ◌≤◌, ℕ, ◌+◌, ◌++◌, ◌∷◌, [], ◌==◌, ◌&&◌, not, Bool, true, false, List, length, map, refl, ◌∙◌, sym, ap, subst, arith, Option, Some, None}
-use Rattle.std.proofs.lemmas.Bool.{false≢true}
+use Rattle.std.proofs.lemmas.Bool.{false≢true, and_left, and_right}
 use Rattle.std.proofs.lemmas.Option.{same_Some}
 use Rattle.rdo_ast.specs.declared.reply.Standing.{Standing}
 use Rattle.rdo_ast.specs.declared.reply.Standing.TheVariants.{Closed, ReadOnly}
@@ -15,14 +15,14 @@ use Rattle.line_view.proofs.Written.{laid_in_turn}
 use Rattle.rdb_account.specs.Events.{Said}
 use Rattle.rdb_account.specs.Places.{Opening, Place, Transaction, Line, nothing, living, at, after, begins, leaves_none, with_line, is_writer, is_done, is_first_refused, asks_of_others, retold, some_reply}
 use Rattle.rdb_account.specs.Lawful.{got_of, has_cause, IsExcused}
-use Rattle.rdb_account.specs.Legal.{MaySay, ends_by, IsAnsweredIn, standing_of_reader}
+use Rattle.rdb_account.specs.Legal.{MaySay, ends_by, ends_its_own, IsAnsweredIn, standing_of_reader}
 use Rattle.line_history.specs.kept_apart.Guards.{AreOwn}
 use Rattle.line_history.specs.kept_apart.Alike.{IsGuarded}
 use Rattle.line_history.proofs.of_kept_apart.Alike.{alike-refl}
 use Rattle.line_history.specs.session_jobs.Records.{Model, IsOrderly, Worked, DoesSo, IsRight}
 use Rattle.line_history.specs.Transactions.{line_of, Leads, IsWriting}
 use Rattle.line_history.proofs.Transactions.{holds-now, holds-said, holds-relaid, holds-excused, stands-told, stands-answered, stands-excused, reader-answered, reader-excused}
-use Rattle.line_history.proofs.Standings.{stays-writer, starts-writer, starts-leaves, excused-undone}
+use Rattle.line_history.proofs.Standings.{stays-writer, starts-writer, starts-leaves, ends-alone, starts-ends, excused-undone}
 use Rattle.line_steps.specs.Members.{writing, reading, Member, member, left_of, life_of}
 use Rattle.lock_ties.specs.Ties.{needs_at}
 use Rattle.line_steps.specs.Right.{Desk, Ground, Writes, StandsAs, HasSpoken, with_desk}
@@ -61,7 +61,7 @@ module _ (M : Model) (orderly : IsOrderly M) where
   -- whatever may be said in a transaction that is open
   said-in : (o : Opening) (p : Place) (g h : Ground) (s : ℕ) (m n : Member) (x : Transaction) (l : Line) → (here : Here M o p g s m) →
       p.transaction s ≡ Some x → left_of m ≡ l.item ∷ left_of n → n.total ≡ m.total → life_of m.state ≡ life_of n.state →
-      is_first_refused (Some x) l.item l.reply ≡ false → (ends_by l.item && is_done l.reply) ≡ false → p.life s ≡ living →
+      is_first_refused (Some x) l.item l.reply ≡ false → (ends_its_own l.item && is_done l.reply) ≡ false → p.life s ≡ living →
       IsAnsweredIn o p s (is_writer x.kind) x l → h.now ≡ g.now → g.time ≤ h.time → h.dead ≡ g.dead → ((t : ℕ) → (t == s) ≡ false → h.desk t ≡ g.desk t) →
       StandsAs M o (behind_line p s x l) h s n.left n.state →
       Steps M o p g s n h (Said s l.item l.choices l.reply ∷ [])
@@ -118,6 +118,26 @@ module _ (M : Model) (orderly : IsOrderly M) where
           (subst (λ (u : Standing). meaning o.word u r.item r.choices leads.then ≡ means r.reply does.then r.behind []) first.0 does.does)
           (is-done (length w.transaction.lines == 0) (leaves_none r.item) (is_done r.reply) e (starts-leaves r.item w.transaction.kind first.1 w.writes) stays)
 
+  -- it goes on behind what was worked in it, also where that is an online backup
+  said-alone : (o : Opening) (p : Place) (g : Ground) (s : ℕ) (standing : Standing) (r : Worked) → (w : Writes M o p g s standing (Some r.item)) → M g.now p.tables → IsRight M o.word standing (g.desk s).known r →
+      (ends_by r.item && is_done r.reply) ≡ false → (ends_its_own r.item && is_done r.reply) ≡ false
+  said-alone o p g s standing r w m right ends = by (length w.transaction.lines == 0) refl
+    where
+      leads : Leads M o.word w.transaction.lines (g.desk s).writes standing g.now p.tables
+      leads = holds-now M orderly o.word w.transaction.got g.now w.transaction.lines (g.desk s).writes standing p.tables m w.is.holds
+
+      does : DoesSo M o.word standing r (laid_all (g.desk s).writes g.now) leads.then
+      does = right.does (laid_all (g.desk s).writes g.now) leads.then leads.stands w.is.agrees
+
+      by : (b : Bool) → (length w.transaction.lines == 0) ≡ b → (ends_its_own r.item && is_done r.reply) ≡ false
+      by false e = ends-alone o.word standing r.behind r.item r.choices leads.then does.then r.reply (w.remains e) does.does ends
+      by true e =
+          let first = first-said o.word p.tables leads.then w.transaction standing r.item w.spoken e leads.folded in
+          and_left (ends_its_own r.item) (is_done r.reply) (starts-ends r.item w.transaction.kind first.1 w.writes)
+
+  refused-alone : (l : Line) → is_refusal_of_means l.reply ≡ true → (ends_its_own l.item && is_done l.reply) ≡ false
+  refused-alone l refused = and_right (ends_its_own l.item) (is_done l.reply) (excused-undone l.reply refused)
+
   refused-remains : (under : Uttered) (l : Line) (x : Transaction) (standing : Standing) → HasSpoken (Some under) x → is_writer x.kind ≡ true → under ≡ l.item → ((length x.lines == 0) ≡ false → is_writer standing ≡ true) →
       is_refusal_of_means l.reply ≡ true → is_first_refused (Some x) l.item l.reply ≡ false → is_writer standing ≡ true
   refused-remains under l x standing spoken writes is remains refused stays = by (length x.lines == 0) refl
@@ -145,7 +165,7 @@ module _ (M : Model) (orderly : IsOrderly M) where
       let d : Desk = record { known = new; writes = behind; start = (g.desk s).start } in
       let l = line_of r in
       said-in o p g (record (with_desk s d g) { time = time }) s (member left (writing standing (Some r.item)) total) (member left (writing r.behind None) total) x l h
-      w.is_open refl refl refl (subst (λ (y : Option Transaction). is_first_refused y r.item r.reply ≡ false) w.is_open stays) ends h.stands.lives
+      w.is_open refl refl refl (subst (λ (y : Option Transaction). is_first_refused y r.item r.reply ≡ false) w.is_open stays) (said-alone o p g s standing r w h.fit.stands right ends) h.stands.lives
       (rw w.writes (
         stands-told M orderly o.word x.got g.now x.lines (g.desk s).writes standing p.tables h.fit.stands w.is.holds,
         stands-answered M orderly o.word o p s x.got g.now x.lines (g.desk s).writes standing (g.desk s).known r h.fit.stands refl w.is.holds right w.is.agrees,
@@ -176,7 +196,7 @@ module _ (M : Model) (orderly : IsOrderly M) where
       let w = h.stands.state in
       let x = w.transaction in
       said-in o p g g s (member left (writing standing (Some l.item)) total) (member left (writing standing None) total) x l h
-      w.is_open refl refl refl (subst (λ (y : Option Transaction). is_first_refused y l.item l.reply ≡ false) w.is_open stays) ends h.stands.lives
+      w.is_open refl refl refl (subst (λ (y : Option Transaction). is_first_refused y l.item l.reply ≡ false) w.is_open stays) (refused-alone l refused) h.stands.lives
       (rw w.writes (
         stands-told M orderly o.word x.got g.now x.lines (g.desk s).writes standing p.tables h.fit.stands w.is.holds,
         stands-excused M orderly o.word o p s x.got g.now x.lines (g.desk s).writes standing l h.fit.stands refl w.is.holds refused excused cause,
@@ -200,7 +220,7 @@ module _ (M : Model) (orderly : IsOrderly M) where
 
   pub answers-reading : (o : Opening) (p : Place) (g : Ground) (s : ℕ) (left : List Uttered) (total : ℕ) (standing : Standing) (r : Worked) →
       (h : Here M o p g s (member left (reading standing (Some r.item)) total)) → IsRight M o.word standing (g.desk s).known r →
-      is_first_refused (p.transaction s) r.item r.reply ≡ false → (ends_by r.item && is_done r.reply) ≡ false →
+      is_first_refused (p.transaction s) r.item r.reply ≡ false → (ends_its_own r.item && is_done r.reply) ≡ false →
       Steps M o p g s (member left (reading ReadOnly None) total) g (Said s r.item r.choices r.reply ∷ [])
   answers-reading o p g s left total standing r h right stays ends =
       let w = h.stands.state in
@@ -223,7 +243,7 @@ module _ (M : Model) (orderly : IsOrderly M) where
       let w = h.stands.state in
       let x = w.transaction in
       said-in o p g g s (member left (reading standing (Some l.item)) total) (member left (reading ReadOnly None) total) x l h
-      w.is_open refl refl refl (subst (λ (y : Option Transaction). is_first_refused y l.item l.reply ≡ false) w.is_open stays) ends h.stands.lives
+      w.is_open refl refl refl (subst (λ (y : Option Transaction). is_first_refused y l.item l.reply ≡ false) w.is_open stays) (refused-alone l refused) h.stands.lives
       (rw w.reads (reader-excused M orderly o.word o p s (g.desk s).start x.base x.lines (g.desk s).known l refl w.is refused
       (subst (λ (u : Standing). (t : Tables) → M (g.desk s).start t → IsExcused l.reply o.word u t l.item) (sym w.has_standing) excused) cause))
       refl (omega arith) refl (λ t other. refl)

@@ -1,13 +1,14 @@
 -- A START_TRANSACTION is refused, and leaves no transaction.
-use Rattle.std.proofs.Common.{◌≡◌, ◌≤◌, ℕ, ◌+◌, ◌∷◌, [], ◌&&◌, true, false, List, refl, ◌∙◌, sym, ap, subst, arith, Option, Some, None}
+use Rattle.std.proofs.Common.{◌≡◌, ◌≤◌, ℕ, ◌+◌, ◌∷◌, [], ◌==◌, ◌&&◌, not, Bool, true, false, List, length, refl, ◌∙◌, sym, ap, subst, arith, Option, Some, None}
+use Rattle.std.proofs.lemmas.Bool.{and_right}
 use Rattle.rdo_ast.specs.declared.reply.Standing.{Standing}
 use Rattle.rdo_ast.specs.Tree.{Uttered}
 use Rattle.rdb_meaning.specs.declared.tables.Tables.{Tables}
 use Rattle.rdb_meaning.specs.Usual.{is_refusal_of_means}
 use Rattle.line_view.specs.Writes.{laid_all}
 use Rattle.rdb_account.specs.Events.{Said, RolledBack}
-use Rattle.rdb_account.specs.Places.{Opening, Place, Transaction, Line, nothing, rolls_back, living, at, after, with_line, is_writer, is_done, is_first_refused, asks_of_others}
-use Rattle.rdb_account.specs.Legal.{May, MaySay, ends_by, IsAnsweredIn}
+use Rattle.rdb_account.specs.Places.{Opening, Place, Transaction, Line, nothing, rolls_back, living, at, after, leaves_none, with_line, is_writer, is_done, is_first_refused, asks_of_others}
+use Rattle.rdb_account.specs.Legal.{May, MaySay, ends_by, ends_its_own, IsAnsweredIn}
 use Rattle.line_history.proofs.of_kept_apart.Alike.{alike-refl}
 use Rattle.line_history.specs.session_jobs.Records.{Model, IsOrderly, Worked, IsRight}
 use Rattle.line_history.specs.Transactions.{line_of}
@@ -40,6 +41,13 @@ behind_refused p s = record p {
 refusal-place : (o : Opening) (p : Place) (s : ℕ) (x : Transaction) (l : Line) → p.transaction s ≡ Some x → is_first_refused (Some x) l.item l.reply ≡ true → after o p (Said s l.item l.choices l.reply) ≡ behind_refusal p s x l
 refusal-place o p s x l is_open first = rw is_open (rw first refl)
 
+-- what is refused isn't done
+refused-alone : (x : Transaction) (l : Line) → is_first_refused (Some x) l.item l.reply ≡ true → (ends_its_own l.item && is_done l.reply) ≡ false
+refused-alone x l first = and_right (ends_its_own l.item) (is_done l.reply) (undone (length x.lines == 0) (leaves_none l.item) (is_done l.reply) first)
+  where
+    undone : (a b d : Bool) → (a && (b && not d)) ≡ true → d ≡ false
+    undone a b d h = grind arith
+
 module _ (M : Model) (orderly : IsOrderly M) where
   refused-leads : (o : Opening) (p : Place) (s : ℕ) (x : Transaction) (l : Line) → p.transaction s ≡ Some x → is_first_refused (Some x) l.item l.reply ≡ true →
       after o (after o p (Said s l.item l.choices l.reply)) (RolledBack s) ≡ record (behind_refused p s) { transaction = at s None (at s (Some (with_line l x)) p.transaction) }
@@ -57,7 +65,7 @@ module _ (M : Model) (orderly : IsOrderly M) where
         may = (
           (
             next-is M o p g s m l.item left h.stands says,
-            subst (λ d. MaySay d o p s l) (sym h.free) (ready p s h.awake h.free lives, ends, rw is_open answered),
+            subst (λ d. MaySay d o p s l) (sym h.free) (ready p s h.awake h.free lives, refused-alone x l first, rw is_open answered),
           ),
           (subst (λ (y : Place). May o y (RolledBack s)) (sym there) refl, tt),
         );

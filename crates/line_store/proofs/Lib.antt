@@ -1,2 +1,4 @@
+pub mod Begun
+pub mod FailedSeats
 pub mod InTurn
 pub mod Causes

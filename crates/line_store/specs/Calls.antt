@@ -16,8 +16,8 @@ use Rattle.line_store.specs.declared.answers.ChangeStop.TheVariants as change
 use Rattle.line_store.specs.declared.answers.CommitStop.{CommitStop}
 use Rattle.line_store.specs.declared.answers.CommitStop.TheVariants as commit
 use Rattle.line_store.specs.declared.answers.Stepped.{Stepped}
-use Rattle.line_store.specs.declared.answers.Stepped.TheVariants.{More, Done, Astray, Committed, Recovered}
-use Rattle.line_store.specs.Seats.{Seat, outside, changing, committing, closing, dead, in_flight, done_at, writes_of, lines_added, lines_written, group_of, is_written, Adds}
+use Rattle.line_store.specs.declared.answers.Stepped.TheVariants.{More, Done, Committed, Recovered}
+use Rattle.line_store.specs.Seats.{Seat, outside, changing, committing, closing, dead, in_flight, done_at, failed_at, writes_of, lines_added, lines_written, group_of, is_written, Adds}
 use Rattle.line_store.specs.Shelves.{Space, Clock, Shelf, AreSpent, Elapses, set_aside_beside}
 
 -- ---- seats
@@ -53,7 +53,7 @@ HasCause Failed old new = Rose old.faults new.faults
 HasCause (Bad file slot) old new = AreSpent new
 
 pub record Fails (s : ℕ) (fault : Fault) (old new : Shelf) : Type 0 where
-  pub moves : Moves s (old.seat s) old new
+  pub moves : Moves s (failed_at (old.seat s)) old new
   pub cause : HasCause fault old.clock new.clock
 
 -- ---- reading
@@ -140,7 +140,6 @@ pub record IsSaved (s moment : ℕ) (old new : Shelf) : Type 0 where
 abbrev pub Comes : ℕ → Shelf → Shelf → Result Stepped Fault → Type 0
 Comes s old new (Ok More) = GoesOn s old new
 Comes s old new (Ok Done) = IsDone s old new
-Comes s old new (Ok Astray) = Moves s (old.seat s) old new
 Comes s old new (Ok (Committed moment)) = IsCommitted s moment.number old new
 Comes s old new (Ok (Recovered true moment)) = IsSaved s moment.number old new
 Comes s old new (Ok (Recovered false moment)) = IsUndone s moment.number old new

@@ -16,6 +16,8 @@ pub data Seat : Type 0 where
   writing : List Write → Seat
   -- the last statement's writes, which are among these, are laid
   changing : List Write → Seat
+  -- a step of its change failed: it can only die
+  broken : List Write → Seat
   -- room is set aside for its commit, and memory is taken
   prepared : List Write → Seat
   committing : List Write → Seat
@@ -23,6 +25,8 @@ pub data Seat : Type 0 where
   -- the transaction is committed, and what its commit left is put away
   closing : Seat
   reading : Lines → Seat
+  -- a reader, whose lines go into the backup of this number
+  copying : (number : ℕ) → (start : Lines) → Seat
   -- it died with these writes, and awaits its recovery. Whether its commit was under way
   dead : Bool → List Write → Seat
 
@@ -34,9 +38,15 @@ pub record IsMember (s : ℕ) : Type 0 where
 abbrev pub members : List ℕ
 members = 1 ∷ 2 ∷ 3 ∷ 4 ∷ 5 ∷ 6 ∷ 7 ∷ 8 ∷ 9 ∷ 10 ∷ 11 ∷ 12 ∷ 13 ∷ 14 ∷ 15 ∷ 16 ∷ []
 
+-- backups are numbered from 1 to 9
+pub record IsBackupNumber (number : ℕ) : Type 0 where
+  pub first : 1 ≤ number
+  pub last : number ≤ 9
+
 abbrev pub writes_of : Seat → List Write
 writes_of (writing ws) = ws
 writes_of (changing ws) = ws
+writes_of (broken ws) = ws
 writes_of (prepared ws) = ws
 writes_of (committing ws) = ws
 writes_of (rolling_back ws) = ws
@@ -67,6 +77,7 @@ IsAtRest _ = ⊥
 abbrev pub IsUnderWay : Seat → Type 0
 IsUnderWay outside = ⊥
 IsUnderWay (writing ws) = ⊥
+IsUnderWay (broken ws) = ⊥
 IsUnderWay (prepared ws) = ⊥
 IsUnderWay (reading start) = ⊥
 IsUnderWay _ = Unit {0}
@@ -116,7 +127,32 @@ done_at beginning = Some (writing [])
 done_at (changing ws) = Some (writing ws)
 done_at (rolling_back ws) = Some outside
 done_at closing = Some outside
+done_at (copying number start) = Some (reading start)
 done_at _ = None
+
+-- the seat behind a step that failed: what is left of a change is unknown
+abbrev pub failed_at : Seat → Seat
+failed_at (changing ws) = broken ws
+failed_at seat = seat
+
+-- ---- backups
+
+-- the number of the backup into which a session copies
+abbrev pub copied_at : Seat → Option ℕ
+copied_at (copying number start) = Some number
+copied_at _ = None
+
+abbrev pub unless_copied : Option ℕ → ℕ → Option ℕ
+unless_copied None number = Some number
+unless_copied (Some before) number = None
+
+abbrev pub begun_by : (before there : Option ℕ) → Option ℕ
+begun_by before None = None
+begun_by before (Some number) = unless_copied before number
+
+-- the number of the backup that a call begins, by the seats before and behind it
+abbrev pub begun : (before there : Seat) → Option ℕ
+begun before there = begun_by (copied_at before) (copied_at there)
 
 -- ---- writes
 

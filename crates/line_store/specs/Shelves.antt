@@ -3,7 +3,7 @@ use Rattle.std.specs.Prelude.{◌≡◌, ◌≤◌, ◌<◌, ◌-◌, ◌^◌, �
 use Rattle.rdb_outside.specs.rdb_types.declared.keys.Limits.{Limits}
 use Rattle.line_view.specs.Knowledge.{Lines}
 use Rattle.line_view.specs.Writes.{laid_all}
-use Rattle.line_store.specs.Seats.{Seat, outside, beginning, writing, changing, prepared, committing, rolling_back, closing, reading, dead, in_flight, members, set_aside}
+use Rattle.line_store.specs.Seats.{Seat, outside, beginning, writing, changing, broken, prepared, committing, rolling_back, closing, reading, copying, dead, in_flight, members, set_aside}
 
 -- The room that there is: the limits, which pages of the area files are taken, and at most how many slots of the snapshot files and of the after-image journal are in use. (What is set aside for a commit is told by its seat.)
 pub record Space : Type 0 where
@@ -37,11 +37,13 @@ seen_from outside now = now
 seen_from beginning now = now
 seen_from (writing ws) now = laid_all ws now
 seen_from (changing ws) now = laid_all ws now
+seen_from (broken ws) now = laid_all ws now
 seen_from (prepared ws) now = laid_all ws now
 seen_from (committing ws) now = laid_all ws now
 seen_from (rolling_back ws) now = laid_all ws now
 seen_from closing now = now
 seen_from (reading start) now = start
+seen_from (copying number start) now = start
 seen_from (dead commits ws) now = laid_all ws now
 
 abbrev pub seen_by : ℕ → Shelf → Lines

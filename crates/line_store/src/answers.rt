@@ -60,8 +60,6 @@ pub enum Stepped {
     /// There is more to do.
     More,
     Done,
-    /// The change can't go on, and its session can only die.
-    Astray,
     /// The writes are committed, and stable since this moment.
     Committed(Moment),
     /// The dead session's transaction is undone, or its commit stands.

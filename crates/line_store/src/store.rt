@@ -15,11 +15,11 @@ pub trait LineStore {
     ghost use Rattle.area_files.specs.rdb_page.Page.{IsOwner, IsClass};
     ghost use Rattle.line_store.specs.declared.answers.Progress.TheVariants.{Done, More};
     ghost use Rattle.line_store.specs.declared.answers.Stepped.TheVariants as stepped;
-    ghost use Rattle.line_store.specs.Seats.{outside, beginning, writing, changing, prepared, committing, rolling_back, reading, IsMember, IsWriting, IsPrepared, IsAtRest, IsReader, IsUnderWay, IsAlive, is_committing, died};
+    ghost use Rattle.line_store.specs.Seats.{outside, beginning, writing, changing, prepared, committing, rolling_back, reading, copying, IsMember, IsBackupNumber, IsWriting, IsPrepared, IsAtRest, IsReader, IsUnderWay, IsAlive, is_committing, died};
     ghost use Rattle.line_store.specs.Shelves.{Shelf, seen_by};
     ghost use Rattle.line_store.specs.Rooms.{IsRoom, IsFull, Takes, IsTaken};
     ghost use Rattle.line_store.specs.Calls.{Moves, Changes, MayStopChange, MayStopCommit};
-    ghost use Rattle.line_store.specs.Sights.{Sight, Agrees, Counts, Stands, Does, Stays, BeginsReading, Prepares, GivesBack, BeginsCommit, RollsBack, Dies, Reads, LearnsLine, LearnsArea, LearnsSome, Steps, IsLess, MayAnswer, MayBeOpened, stepped_to, StandsAlone};
+    ghost use Rattle.line_store.specs.Sights.{Sight, Agrees, Counts, Stands, Does, Stays, BeginsReading, BeginsCopying, IsBackedBy, Prepares, GivesBack, BeginsCommit, RollsBack, Dies, Reads, LearnsLine, LearnsArea, LearnsSome, Steps, IsLess, MayAnswer, MayBeOpened, stepped_to, StandsAlone};
 
     /// What the store shows of what it holds.
     ghost sight: { Self → Sight };
@@ -47,6 +47,14 @@ pub trait LineStore {
         requires member { IsMember s.number }
         requires outside { (sight self.old).stand s.number ≡ outside }
         ensures ok { OnOk result (Does s.number (reading []) (BeginsReading s.number) (sight self.old) (sight self.new)) }
+        ensures err { OnErr result (Stays s.number (sight self.old) (sight self.new)) };
+
+    /// Begins a read-only transaction, whose lines its steps copy into the backup of this number.
+    fn begin_copy(&mut self, s: Session, number: u32) -> Result<(), NoMemory>
+        requires member { IsMember s.number }
+        requires outside { (sight self.old).stand s.number ≡ outside }
+        requires number { IsBackupNumber number }
+        ensures ok { OnOk result (Does s.number (copying number []) (BeginsCopying s.number number) (sight self.old) (sight self.new)) }
         ensures err { OnErr result (Stays s.number (sight self.old) (sight self.new)) };
 
     /// Ends a read-only transaction.
@@ -153,7 +161,8 @@ pub trait LineStore {
         requires seat { IsUnderWay ((sight self.old).stand s.number) }
         ensures answers { MayAnswer ((sight self.old).stand s.number) result }
         ensures comes { Does s.number (stepped_to ((sight self.old).stand s.number) result) (Steps s.number result) (sight self.old) (sight self.new) }
-        ensures less { result ≡ Ok stepped.More → IsLess s.number (sight self.old) (sight self.new) };
+        ensures less { result ≡ Ok stepped.More → IsLess s.number (sight self.old) (sight self.new) }
+        ensures backed { result ≡ Ok stepped.Done → IsBackedBy s.number (sight self.old) (sight self.new) };
 
     /// Whether the session's next step is the barrier that makes its commit stable.
     fn is_at_barrier(&self, s: Session) -> bool

@@ -16,3 +16,7 @@ no_journal file slot is bad = elim is [
   | inl area ↦ let k : Area ≡ Ruj = sym (ap (λ (f : FileId). f.kind) area.1) ∙ bad in cc
   | inr aij ↦ let k : Aij ≡ Ruj = sym aij ∙ bad in cc
 ]
+
+-- such a file by its kind alone
+pub area_or_journal : (file : FileId) (slot : ℕ) → ((n : ℕ) × (file ≡ area_file n) × IsDataPage (slot + 1)) ⊎ (file.kind ≡ Aij) → (file.kind ≡ Area) ⊎ (file.kind ≡ Aij)
+area_or_journal file slot is = elim is [ inl area ↦ inl (ap (λ (f : FileId). f.kind) area.1) | inr aij ↦ inr aij ]

@@ -1,7 +1,7 @@
 // A member's commit, from its pages' owners to its answer.
-ghost use Rattle.std.specs.Prelude.{◌≡◌, ◌≢◌, ◌+◌, ◌≤◌, ◌<◌, ◌^◌, ℕ, List, length, IfOk, IsErrOf, IsTrue};
+ghost use Rattle.std.specs.Prelude.{◌≡◌, ◌≢◌, ◌+◌, ◌≤◌, ◌<◌, ◌^◌, ◌⊎◌, ℕ, List, length, IfOk, IsErrOf, IsTrue};
 ghost use Rattle.rdb_types.specs.declared.file.FileId.{FileId as File};
-ghost use Rattle.rdb_types.specs.declared.file.FileKind.TheVariants.{Root as RootKind, Snap};
+ghost use Rattle.rdb_types.specs.declared.file.FileKind.TheVariants.{Aij, Area, Root as RootKind, Snap};
 ghost use Rattle.rdb_outside.specs.Causes.{Rose};
 ghost use Rattle.rdb_outside.specs.Disk.{OnlyReads, Pending};
 ghost use Rattle.area_files.specs.Areas.{IsDataPage};
@@ -119,6 +119,8 @@ fn go_further<D: Disk>(
     requires tsn { group.tsn.number < 2 ^ 62 }
     ensures writes { (file : File) × (slot : ℕ) × (file.kind ≢ Snap) × (file.kind ≢ RootKind)
         × OnlyWrites file slot (D.view disk.old) (D.view disk.new) }
+    ensures files { (file : File) × (slot : ℕ) × ((file.kind ≡ Area) ⊎ (file.kind ≡ Aij))
+        × OnlyWrites file slot (D.view disk.old) (D.view disk.new) }
     ensures journals { IsTrue (D.view disk.old).tells → (member : ℕ) (slot : ℕ)
         → (D.view disk.new).content (ruj_file member) slot ≡ (D.view disk.old).content (ruj_file member) slot }
     ensures failed { IsErrOf result Fault.Failed
@@ -183,6 +185,10 @@ pub fn commit_next<D: Disk>(
 
     // It writes one slot at most, and neither of a snapshot file nor of the root.
     ensures writes { (file : File) × (slot : ℕ) × (file.kind ≢ Snap) × (file.kind ≢ RootKind)
+        × OnlyWrites file slot (D.view disk.old) (D.view disk.new) }
+
+    // That slot is of an area file or of the after-image journal.
+    ensures files { (file : File) × (slot : ℕ) × ((file.kind ≡ Area) ⊎ (file.kind ≡ Aij))
         × OnlyWrites file slot (D.view disk.old) (D.view disk.new) }
 
     // Before-image journals read as they did.

@@ -1,4 +1,5 @@
 pub mod Counted
+mod Copied
 pub mod Laying
 pub mod Seating
 pub mod Stepping

@@ -9,7 +9,7 @@ use Rattle.line_store.specs.Shelves.{Shelf, Space}
 use Rattle.line_store.specs.Calls.{KeepsOthers, KeepsSpace, Moves}
 use Rattle.memory_store.specs.declared.seat.Seat.{Seat as Held}
 use Rattle.memory_store.specs.declared.seat.Seat.TheVariants as held
-use Rattle.memory_store.specs.Kept.{Kept, AreKept, empty_seats, is_ready, count_ready, seat_of, seat_or, seat_at, shelf_of, with_seat, with_stock}
+use Rattle.memory_store.specs.Kept.{Kept, AreKept, empty_seats, is_ready, count_ready, seat_of, seat_or, seat_at, shelf_of, with_seat, with_stock, copier_of}
 
 -- ---- lists
 
@@ -23,7 +23,7 @@ set-here [] i y h = absurd (omega (arith, h))
 set-here (z ∷ zs) zero y h = refl
 set-here (z ∷ zs) (suc i) y h = set-here zs i y (omega (arith, h))
 
-get-apart : {X : Type 0} (xs : List X) (i t : ℕ) (y : X) → (t ≡ i → ⊥) → slice_get (slice_set xs i y) t ≡ slice_get xs t
+pub get-apart : {X : Type 0} (xs : List X) (i t : ℕ) (y : X) → (t ≡ i → ⊥) → slice_get (slice_set xs i y) t ≡ slice_get xs t
 get-apart [] i t y h = refl
 get-apart (z ∷ zs) zero zero y h = absurd (h refl)
 get-apart (z ∷ zs) zero (suc t) y h = refl
@@ -130,10 +130,17 @@ moves k new s h seat is here seat-is =
     (moves-by k s h seat (ap (λ (n : Kept). seat_at n.seats s) (sym is) ∙ (seat-here new.seats s h here ∙ seat-is)))
 
 pub twice : (k : Kept) (s : ℕ) (g h : Held) → with_seat s h (with_seat s g k) ≡ with_seat s h k
-twice k s g h = ap (λ (seats : List Held). record { limits = k.limits; lines = k.lines; room = k.room; seats = seats; pages = k.pages }) (set-twice k.seats s g h)
+twice k s g h = ap (λ (seats : List Held). record { limits = k.limits; lines = k.lines; room = k.room; seats = seats; copiers = k.copiers; pages = k.pages }) (set-twice k.seats s g h)
 
 pub put-twice : (k mid new : Kept) (s : ℕ) (g h : Held) → mid ≡ with_seat s g k → new ≡ with_seat s h mid → new ≡ with_seat s h k
 put-twice k mid new s g h first then = then ∙ (ap (λ (n : Kept). with_seat s h n) first ∙ twice k s g h)
+
+-- who began a backup last stays
+pub copier-put : (k new : Kept) (s : ℕ) (h : Held) → new ≡ with_seat s h k → (n : ℕ) → copier_of new n ≡ copier_of k n
+copier-put k new s h is n = ap (λ (it : Kept). copier_of it n) is
+
+pub copier-put-twice : (k mid new : Kept) (s : ℕ) (g h : Held) → mid ≡ with_seat s g k → new ≡ with_seat s h mid → (n : ℕ) → copier_of new n ≡ copier_of k n
+copier-put-twice k mid new s g h first then n = copier-put mid new s h then n ∙ copier-put k mid s g first n
 
 -- what was held was taken out, and h was put
 pub moves-twice : (k mid new : Kept) (s : ℕ) (h : Held) (seat : Seat) → mid ≡ with_seat s held.Outside k → new ≡ with_seat s h mid → slice_get new.seats s ≡ Some h → seat_of h ≡ seat → Moves s seat (shelf_of k) (shelf_of new)

@@ -6,8 +6,8 @@ use Rattle.line_view.specs.declared.writes.Write.{Write}
 use Rattle.line_view.specs.Knowledge.{Lines}
 use Rattle.line_view.specs.Writes.{laid_all}
 use Rattle.line_store.specs.declared.answers.Stepped.{Stepped}
-use Rattle.line_store.specs.declared.answers.Stepped.TheVariants.{More, Done, Committed, Recovered, Astray}
-use Rattle.line_store.specs.Seats.{Seat, outside, beginning, writing, changing, prepared, committing, rolling_back, closing, reading, dead, writes_of, done_at, Adds}
+use Rattle.line_store.specs.declared.answers.Stepped.TheVariants.{More, Done, Committed, Recovered}
+use Rattle.line_store.specs.Seats.{Seat, outside, beginning, writing, changing, broken, prepared, committing, rolling_back, closing, reading, copying, dead, writes_of, done_at, Adds}
 use Rattle.line_store.specs.Shelves.{seen_from}
 use Rattle.line_store.specs.Calls.{Moves, Changes, Comes, IsCommitted}
 use Rattle.memory_store.specs.declared.seat.Seat.{Seat as Held}
@@ -23,11 +23,13 @@ seen-laid outside now = refl
 seen-laid beginning now = refl
 seen-laid (writing ws) now = refl
 seen-laid (changing ws) now = refl
+seen-laid (broken ws) now = refl
 seen-laid (prepared ws) now = refl
 seen-laid (committing ws) now = refl
 seen-laid (rolling_back ws) now = refl
 seen-laid closing now = refl
 seen-laid (reading start) now = refl
+seen-laid (copying number start) now = refl
 seen-laid (dead commits ws) now = refl
 
 -- ---- answers
@@ -86,7 +88,6 @@ stepped k mid new s was h Done had steps first then here = record {
   moves = moves-twice k mid new s h (seat_of h) first then here refl;
 }
 stepped k mid new s was h (Committed moment) had steps first then here = absurd steps
-stepped k mid new s was h Astray had steps first then here = absurd steps
 stepped k mid new s was h (Recovered true moment) had steps first then here = absurd (true≢false steps.0)
 stepped k mid new s was h (Recovered false moment) had steps first then here = record {
   commits = steps.3.0;

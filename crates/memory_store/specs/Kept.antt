@@ -5,12 +5,13 @@ use Rattle.std.proofs.Common.{refl}
 use Rattle.std.proofs.lemmas.Bool.{ltb-true}
 use Rattle.rdb_types.specs.declared.keys.Dbkey.{Dbkey}
 use Rattle.rdb_types.specs.declared.keys.Limits.{Limits}
+use Rattle.rdb_types.specs.declared.session.Session.{Session}
 use Rattle.area_files.specs.Areas.{IsSpacePage}
 use Rattle.line_view.specs.declared.writes.Write.{Write}
 use Rattle.line_view.specs.Knowledge.{Lines, line_in}
 use Rattle.line_store.specs.declared.answers.Stepped.{Stepped}
-use Rattle.line_store.specs.declared.answers.Stepped.TheVariants.{More, Done, Committed, Recovered, Astray}
-use Rattle.line_store.specs.Seats.{Seat, outside, beginning, writing, changing, prepared, committing, rolling_back, closing, reading, dead, done_at, writes_of, Adds}
+use Rattle.line_store.specs.declared.answers.Stepped.TheVariants.{More, Done, Committed, Recovered}
+use Rattle.line_store.specs.Seats.{Seat, outside, beginning, writing, changing, prepared, committing, rolling_back, closing, reading, copying, dead, done_at, writes_of, Adds}
 use Rattle.line_store.specs.Shelves.{Shelf, seen_by}
 use Rattle.line_store.specs.Sights.{Sight}
 use Rattle.line_store.specs.Rooms.{IsBehind, first_line}
@@ -18,6 +19,7 @@ use Rattle.member_memory.specs.Memory.{writes_in}
 use Rattle.memory_store.specs.declared.seat.Seat.{Seat as Held}
 use Rattle.memory_store.specs.declared.seat.Seat.TheVariants as held
 use Rattle.memory_store.specs.declared.store.PageUse.{PageUse}
+use Rattle.memory_store.specs.Copiers.{copier_in}
 
 -- ---- seats
 
@@ -31,6 +33,7 @@ seat_of (held.Committing ws) = committing (writes_in ws.lines)
 seat_of (held.RollingBack ws) = rolling_back (writes_in ws.lines)
 seat_of held.Closing = closing
 seat_of (held.Reading start) = reading start
+seat_of (held.Copying number start) = copying number start
 seat_of (held.Dead commits ws) = dead commits (writes_in ws.lines)
 
 abbrev pub seat_or : Option Held → Seat
@@ -46,6 +49,7 @@ empty_seats = replicate 17 held.Outside
 -- the lines over which a session's writes are laid
 abbrev pub base_of : Seat → Lines → Lines
 base_of (reading start) now = start
+base_of (copying number start) now = start
 base_of _ now = now
 
 -- a commit of this seat may still land
@@ -68,7 +72,6 @@ abbrev pub StepsTo : Seat → Seat → Stepped → Type 0
 StepsTo old new More = ⊥
 StepsTo old new Done = done_at old ≡ Some new
 StepsTo old new (Committed moment) = ⊥
-StepsTo old new Astray = ⊥
 StepsTo old new (Recovered is_committed moment) = (is_committed ≡ false) × (moment.number ≡ 0) × (new ≡ outside) × ((commits : Bool) × (ws : List Write) × (old ≡ dead commits ws))
 
 -- these writes were laid over those of the transaction
@@ -85,6 +88,8 @@ pub record Kept : Type 0 where
   -- how many commits may land before memory is wanted
   pub room : ℕ
   pub seats : List Held
+  -- who began the backup of a number last
+  pub copiers : List (Option Session)
   pub pages : List PageUse
 
 abbrev pub is_taken : List PageUse → ℕ → ℕ → Bool
@@ -104,13 +109,16 @@ shelf_of k = record {
 abbrev pub left_of : Kept → ℕ → Lines → Type 0
 left_of k t lines = ⊥
 
--- so none has to be opened
+-- so none has to be opened, and none lacks a backup
 abbrev pub none_of : Kept → ℕ → Type 0
 none_of k t = (lines : Lines) → left_of k t lines → ⊥
 
+abbrev pub copier_of : Kept → ℕ → Option ℕ
+copier_of k = copier_in k.copiers
+
 -- it shows the one shelf that it holds
 abbrev pub sight_of : Kept → Sight
-sight_of k = record { shows = λ h. h ≡ shelf_of k; stand = seat_at k.seats; steps = λ s. 0; left = left_of k; opens = none_of k }
+sight_of k = record { shows = λ h. h ≡ shelf_of k; stand = seat_at k.seats; steps = λ s. 0; left = left_of k; opens = none_of k; copier = copier_of k; backed = λ number t lines. none_of k t }
 
 -- no step is ever left
 pub none_left : 0 < 2 ^ 64
@@ -118,6 +126,9 @@ none_left = ltb-true 0 (2 ^ 64) refl
 
 abbrev pub with_seat : ℕ → Held → Kept → Kept
 with_seat s h k = record k { seats = slice_set k.seats s h }
+
+abbrev pub with_copiers : List (Option Session) → Kept → Kept
+with_copiers copiers k = record k { copiers = copiers }
 
 abbrev pub with_stock : Lines → ℕ → Kept → Kept
 with_stock lines room k = record k { lines = lines; room = room }

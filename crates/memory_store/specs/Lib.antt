@@ -1,2 +1,3 @@
+pub mod Copiers
 pub mod Kept
 pub mod Landed

@@ -3,6 +3,7 @@
 #![tactic(auto)]
 
 mod committed;
+mod copiers;
 mod lines;
 mod reading;
 mod rooms;

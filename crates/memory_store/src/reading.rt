@@ -25,6 +25,7 @@ impl MemoryStore {
     {
         match self.seat(s) {
             Seat::Reading(start) => image_in(start, key),
+            Seat::Copying(_, start) => image_in(start, key),
             _ => self.committed.line(key),
         }
     }
@@ -36,6 +37,7 @@ impl MemoryStore {
     {
         match self.seat(s) {
             Seat::Reading(start) => start.copied(self.alloc),
+            Seat::Copying(_, start) => start.copied(self.alloc),
             _ => self.committed.copied(self.alloc),
         }
     }

@@ -24,6 +24,8 @@ pub(crate) enum Seat {
     Closing,
     /// The lines are those at the reader's start.
     Reading(LineMap),
+    /// These lines go into the backup of this number.
+    Copying(u32, LineMap),
     /// Whether its commit was under way.
     Dead(bool, MemberLines),
 }
@@ -130,6 +132,7 @@ impl Seat {
             Seat::Changing(lines) => (Seat::Writing(lines), Stepped::Done),
             Seat::RollingBack(_) => (Seat::Outside, Stepped::Done),
             Seat::Closing => (Seat::Outside, Stepped::Done),
+            Seat::Copying(_, start) => (Seat::Reading(start), Stepped::Done),
             Seat::Dead(_, _) => (
                 Seat::Outside,
                 Stepped::Recovered {

@@ -1,10 +1,11 @@
 // The seats of a store.
-ghost use Rattle.std.specs.Prelude.{◌≡◌, ◌≤◌, ◌<◌, ◌+◌, Some, true, slice_get, OnOk};
+ghost use Rattle.std.specs.Prelude.{◌≡◌, ◌≤◌, ◌<◌, ◌+◌, ℕ, Some, true, slice_get, OnOk};
+ghost use Rattle.line_store.specs.Sights.{copier_behind};
 ghost use Rattle.line_view.specs.Writes.{laid_all};
 ghost use Rattle.line_store.specs.Seats.{IsMember};
 ghost use Rattle.member_memory.specs.Memory.{writes_in};
 ghost use Rattle.memory_store.specs.declared.seat.Seat.TheVariants.{Outside};
-ghost use Rattle.memory_store.specs.Kept.{seat_of, is_ready, count_ready, with_seat, with_stock, MayHave};
+ghost use Rattle.memory_store.specs.Kept.{seat_of, is_ready, count_ready, with_seat, with_copiers, copier_of, with_stock, MayHave};
 
 use crate::MemoryStore;
 use crate::seat::Seat;
@@ -32,6 +33,15 @@ impl MemoryStore {
         ensures here { slice_get self.new.seats s.number ≡ Some seat }
     {
         self.seats[s.number as usize] = seat;
+    }
+
+    /// The session begins the backup of this number.
+    pub(crate) fn note_copier(&mut self, s: Session, number: u32)
+        requires { number ≤ 9 }
+        ensures same { self.new ≡ with_copiers self.new.copiers self.old }
+        ensures copier { (n : ℕ) → copier_of self.new n ≡ copier_behind s.number (Some number) (copier_of self.old) n }
+    {
+        self.copiers.begin(number, s);
     }
 
     /// Makes room for the commits of all seats.

@@ -1,8 +1,9 @@
 // The store, and its calls.
-ghost use Rattle.std.specs.Prelude.{◌≡◌, [], IfOk};
-ghost use Rattle.memory_store.specs.Kept.{empty_seats};
+ghost use Rattle.std.specs.Prelude.{◌≡◌, ℕ, [], None, IfOk};
+ghost use Rattle.memory_store.specs.Kept.{empty_seats, copier_of};
 
 use crate::committed::Committed;
+use crate::copiers::Copiers;
 use crate::lines::lines_of;
 use crate::seat::Seat;
 use area_files::{AreaFull, storage_area};
@@ -33,6 +34,7 @@ pub struct MemoryStore {
     pub(crate) limits: Limits,
     pub(crate) committed: Committed,
     pub(crate) seats: Vec<Seat>,
+    pub(crate) copiers: Copiers,
     pub(crate) pages: Vec<PageUse>,
 }
 
@@ -41,7 +43,7 @@ impl Model for MemoryStore {
 
     ghost Value = { Kept };
 
-    ghost view = { λ m. record { limits = m.limits; lines = m.committed.lines; room = m.committed.room; seats = m.seats.items; pages = m.pages.items } };
+    ghost view = { λ m. record { limits = m.limits; lines = m.committed.lines; room = m.committed.room; seats = m.seats.items; copiers = m.copiers; pages = m.pages.items } };
 
     ghost invariant = { λ m. AreKept m.committed.room m.seats.items };
 }
@@ -61,6 +63,7 @@ impl MemoryStore {
     pub fn new(alloc: Global, limits: Limits) -> Result<MemoryStore, NoMemory>
         ensures lines { IfOk result (λ m. m.lines ≡ []) }
         ensures seats { IfOk result (λ m. m.seats ≡ empty_seats) }
+        ensures copier { IfOk result (λ m. (n : ℕ) → copier_of m n ≡ None) }
         ensures pages { IfOk result (λ m. m.pages ≡ []) }
         ensures limits { IfOk result (λ m. m.limits ≡ limits) }
     {
@@ -71,6 +74,7 @@ impl MemoryStore {
             limits,
             committed,
             seats,
+            copiers: Copiers::new(),
             pages: Vec::new(alloc),
         })
     }
@@ -98,6 +102,13 @@ impl LineStore for MemoryStore {
     fn begin_reading(&mut self, s: Session) -> Result<(), NoMemory> {
         let start = self.committed.copied(self.alloc)?;
         self.put(s, Seat::Reading(start));
+        Ok(())
+    }
+
+    fn begin_copy(&mut self, s: Session, number: u32) -> Result<(), NoMemory> {
+        let start = self.committed.copied(self.alloc)?;
+        self.note_copier(s, number);
+        self.put(s, Seat::Copying(number, start));
         Ok(())
     }
 

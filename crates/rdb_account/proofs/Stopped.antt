@@ -1,12 +1,12 @@
 -- Accounts of a session whose script ends in a stop.
 use Rattle.std.proofs.Common.{arith}
 use Rattle.std.specs.Prelude.{refl, ℕ, ◌==◌, if◌then◌else◌, Bool, false, List, [], ◌∷◌}
-use Rattle.rdo_ast.specs.Tree.{Uttered, said, start_read_only}
+use Rattle.rdo_ast.specs.Tree.{Uttered}
 use Rattle.lock_needs.specs.rdb_types.declared.session.Cause.TheVariants as cause
 use Rattle.rdb_account.specs.Events.{Event, Began, Said, RolledBack, Died, Recovered}
 use Rattle.rdb_account.specs.Places.{Opening}
 use Rattle.rdb_account.specs.Legal.{IsLegal, AreWhole}
-use Rattle.rdb_account.proofs.Worked.{writer, start_writing, done, set_row, base, beside}
+use Rattle.rdb_account.proofs.Worked.{writer, start_writing, done, base, beside}
 
 abbrev is_first : ℕ → Bool
 is_first s = s == 1

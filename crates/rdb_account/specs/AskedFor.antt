@@ -7,7 +7,7 @@ use Rattle.lock_needs.specs.rdb_types.declared.node.Node.{Node}
 use Rattle.rdo_ast.specs.declared.syntax.Reservation.{Reservation}
 use Rattle.rdo_ast.specs.declared.syntax.Share.{Share}
 use Rattle.rdo_ast.specs.declared.syntax.Share.TheVariants.{Shared, Protected, Exclusive}
-use Rattle.rdo_ast.specs.Tree.{Command, Uttered, said, syntax_fault, invoke, start_read_only, start_read_write, commit, rollback, finish, perform, define_field, define_relation, define_index, delete_relation, delete_index}
+use Rattle.rdo_ast.specs.Tree.{Command, Uttered, said, syntax_fault, invoke, start_read_only, start_read_write, commit, rollback, finish, perform, define_field, define_relation, define_index, delete_relation, delete_index, back_up}
 use Rattle.rdb_meaning.specs.declared.tables.Relation.{Relation}
 use Rattle.rdb_meaning.specs.declared.tables.Tables.{Tables}
 use Rattle.lock_needs.specs.rdb_types.Order.{chars_order}
@@ -96,6 +96,7 @@ command_asks t n (invoke text) = false
 command_asks t n start_read_only = false
 command_asks t n rollback = false
 command_asks t n finish = false
+command_asks t n (back_up number) = false
 
 -- by the standing nothing is wrong with it
 abbrev pub item_asks : Refusal → Tables → Need → Uttered → Bool

@@ -6,7 +6,7 @@ use Rattle.rdo_ast.specs.declared.reply.Reply.{Reply}
 use Rattle.rdo_ast.specs.declared.reply.Reply.TheVariants as r
 use Rattle.rdo_ast.specs.declared.reply.Standing.{Standing}
 use Rattle.rdo_ast.specs.declared.reply.Standing.TheVariants.{ReadWrite}
-use Rattle.rdo_ast.specs.Tree.{Uttered, said, syntax_fault, invoke, commit, rollback, finish, perform, define_field, define_relation, define_index, delete_relation, delete_index}
+use Rattle.rdo_ast.specs.Tree.{Uttered, said, syntax_fault, invoke, commit, rollback, finish, perform, define_field, define_relation, define_index, delete_relation, delete_index, back_up}
 use Rattle.rdb_meaning.specs.declared.tables.Tables.{Tables}
 use Rattle.rdb_meaning.specs.Checks.{Refusal, is_retrieval}
 use Rattle.rdb_meaning.specs.Meaning.{Meaning, means, meaningless, meaning, standing_refusal}
@@ -120,6 +120,7 @@ never_waits (said commit) = true
 never_waits (said rollback) = true
 never_waits (said finish) = true
 never_waits (said (invoke text)) = true
+never_waits (said (back_up n)) = true
 never_waits _ = false
 
 -- the refusals that come before any need is wanted: by syntax and by the standing

@@ -4,7 +4,7 @@ use Rattle.rdo_ast.specs.declared.reply.Reply.{Reply}
 use Rattle.rdo_ast.specs.declared.reply.Reply.TheVariants as r
 use Rattle.rdo_ast.specs.declared.reply.Standing.{Standing}
 use Rattle.rdo_ast.specs.declared.reply.Standing.TheVariants.{Closed, ReadOnly}
-use Rattle.rdo_ast.specs.Tree.{Uttered, said, commit, rollback}
+use Rattle.rdo_ast.specs.Tree.{Uttered, said, commit, rollback, back_up}
 use Rattle.rdb_meaning.specs.declared.tables.Tables.{Tables}
 use Rattle.rdb_meaning.specs.Meaning.{meaning}
 use Rattle.rdb_meaning.specs.Usual.{is_refusal_of_means}
@@ -35,6 +35,11 @@ abbrev pub ends_by : Uttered → Bool
 ends_by (said commit) = true
 ends_by (said rollback) = true
 ends_by _ = false
+
+-- and so does an online backup, which began that transaction
+abbrev pub ends_its_own : Uttered → Bool
+ends_its_own (said (back_up n)) = true
+ends_its_own item = ends_by item
 
 abbrev pub standing_of_reader : List Line → Standing
 standing_of_reader [] = Closed
@@ -96,6 +101,10 @@ abbrev pub is_rolling_back : Option Uttered → Bool
 is_rolling_back (Some (said rollback)) = true
 is_rolling_back _ = false
 
+abbrev pub is_backing_up : Option Uttered → Bool
+is_backing_up (Some (said (back_up n))) = true
+is_backing_up _ = false
+
 abbrev pub is_at_end : Option Uttered → Bool
 is_at_end (Some item) = false
 is_at_end None = true
@@ -109,7 +118,7 @@ may_die_of o p s cause.Memory = o.may_die s cause.Memory
 
 abbrev pub MaySay : Due → Opening → Place → ℕ → Line → Type 0
 MaySay nothing o p s l =
-    (is_ready p s ≡ true) × ((ends_by l.item && is_done l.reply) ≡ false) × IsAnswered o p s (p.transaction s) l
+    (is_ready p s ≡ true) × ((ends_its_own l.item && is_done l.reply) ≡ false) × IsAnswered o p s (p.transaction s) l
 MaySay (commit_reply t) o p s l = (s ≡ t) × (l.choices ≡ []) × (l.reply ≡ r.Done [])
 MaySay (rollback_reply t) o p s l = (s ≡ t) × (l.choices ≡ []) × (l.reply ≡ r.Done [])
 MaySay (rolls_back t) o p s l = ⊥
@@ -121,10 +130,10 @@ MayRollBack (rolls_back t) o p s = s ≡ t
 MayRollBack (commit_reply t) o p s = ⊥
 MayRollBack (rollback_reply t) o p s = ⊥
 
--- the items of a read-write transaction stand over the tables of the commits so far
+-- The items of a read-write transaction stand over the tables of the commits so far. A read-only one in which nothing was said also ends with its online backup.
 abbrev pub MayCommitAs : Bool → Opening → Place → ℕ → Transaction → Type 0
 MayCommitAs true o p s t = IsTold o.word p.tables t.lines × (is_committing (next_item o p s) ≡ true)
-MayCommitAs false o p s t = is_committing (next_item o p s) ≡ true
+MayCommitAs false o p s t = (is_committing (next_item o p s) || (is_backing_up (next_item o p s) && (length t.lines == 0))) ≡ true
 
 abbrev pub MayCommitBy : Opening → Place → ℕ → Option Transaction → Type 0
 MayCommitBy o p s None = ⊥

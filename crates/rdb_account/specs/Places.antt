@@ -6,7 +6,7 @@ use Rattle.rdo_ast.specs.declared.reply.Reply.{Reply}
 use Rattle.rdo_ast.specs.declared.reply.Reply.TheVariants as r
 use Rattle.rdo_ast.specs.declared.reply.Standing.{Standing}
 use Rattle.rdo_ast.specs.declared.reply.Standing.TheVariants.{Closed, ReadOnly, ReadWrite}
-use Rattle.rdo_ast.specs.Tree.{Uttered, said, start_read_only, start_read_write, perform}
+use Rattle.rdo_ast.specs.Tree.{Uttered, said, start_read_only, start_read_write, perform, back_up}
 use Rattle.rdb_meaning.specs.declared.tables.Tables.{Tables}
 use Rattle.rdb_meaning.specs.Checks.{is_retrieval}
 use Rattle.rdb_meaning.specs.Meaning.{Meaning, means, meaningless, meaning}
@@ -108,7 +108,7 @@ pub data Life : Type 0 where
   dead : Life
   gone : Life
 
--- what must come next: nothing of the kind, the reply to the COMMIT that a commit has ended, the reply to the ROLLBACK, or the end of a transaction whose first statement was refused
+-- what must come next: nothing of the kind, the reply to the COMMIT or the online backup that a commit has ended, the reply to the ROLLBACK, or the end of a transaction whose first statement was refused
 pub data Due : Type 0 where
   nothing : Due
   commit_reply : ℕ → Due
@@ -169,13 +169,20 @@ abbrev pub begins : Uttered → Option Standing
 begins (said start_read_only) = Some ReadOnly
 begins (said (start_read_write wait rs)) = Some (ReadWrite wait rs)
 begins (said (perform a)) = if is_retrieval a then Some ReadOnly else None
+begins (said (back_up n)) = Some ReadOnly
 begins _ = None
 
--- START_TRANSACTION, whose refusal leaves no transaction
+-- START_TRANSACTION and an online backup, whose refusal leaves no transaction
 abbrev pub leaves_none : Uttered → Bool
 leaves_none (said start_read_only) = true
 leaves_none (said (start_read_write wait rs)) = true
+leaves_none (said (back_up n)) = true
 leaves_none _ = false
+
+-- the number of the online backup that an item asks for
+abbrev pub backup_of : Uttered → Option ℕ
+backup_of (said (back_up n)) = Some n
+backup_of _ = None
 
 abbrev pub is_done : Reply → Bool
 is_done (r.Done lines) = true

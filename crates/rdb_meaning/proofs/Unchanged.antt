@@ -5,7 +5,7 @@ use Rattle.ordered_entries.specs.rdb_types.declared.keys.Dbkey.{Dbkey}
 use Rattle.rdo_ast.specs.declared.reply.Reply.{Reply}
 use Rattle.rdo_ast.specs.declared.reply.Standing.{Standing}
 use Rattle.rdo_ast.specs.declared.reply.Standing.TheVariants.{Closed, ReadOnly, ReadWrite}
-use Rattle.rdo_ast.specs.Tree.{Act, store, for_each, print, modify, erase, Acts, no_act, act, invoke, start_read_only, start_read_write, commit, rollback, finish, perform, define_field, define_relation, define_index, delete_relation, delete_index, Uttered, said, syntax_fault}
+use Rattle.rdo_ast.specs.Tree.{Act, store, for_each, print, modify, erase, Acts, no_act, act, invoke, start_read_only, start_read_write, commit, rollback, finish, back_up, perform, define_field, define_relation, define_index, delete_relation, delete_index, Uttered, said, syntax_fault}
 use Rattle.rdb_meaning.specs.declared.tables.Tables.{Tables}
 use Rattle.rdb_meaning.specs.Checks.{Refusal, is_retrieval, are_retrievals}
 use Rattle.rdb_meaning.specs.Evaluation.{Scope, Tuple, Selected, these, not_computed, bind_tuple, sources_of}
@@ -97,6 +97,7 @@ leaves word Closed (said (start_read_write wait rs)) choices t h = leaves-unless
 leaves word Closed (said commit) choices t h = refl
 leaves word Closed (said rollback) choices t h = refl
 leaves word Closed (said finish) choices t h = refl
+leaves word Closed (said (back_up n)) choices t h = refl
 leaves word Closed (said (perform a)) choices t h = leaves-act a (is_retrieval a) Closed choices t refl refl
 leaves word Closed (said (define_field n type)) choices t h = refl
 leaves word Closed (said (define_relation n fs)) choices t h = refl
@@ -110,6 +111,7 @@ leaves word ReadOnly (said (start_read_write wait rs)) choices t h = refl
 leaves word ReadOnly (said commit) choices t h = refl
 leaves word ReadOnly (said rollback) choices t h = refl
 leaves word ReadOnly (said finish) choices t h = refl
+leaves word ReadOnly (said (back_up n)) choices t h = refl
 leaves word ReadOnly (said (perform a)) choices t h = leaves-act a (is_retrieval a) ReadOnly choices t refl refl
 leaves word ReadOnly (said (define_field n type)) choices t h = refl
 leaves word ReadOnly (said (define_relation n fs)) choices t h = refl

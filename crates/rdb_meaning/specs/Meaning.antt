@@ -8,7 +8,7 @@ use Rattle.rdo_ast.specs.declared.reply.Reply.{Reply}
 use Rattle.rdo_ast.specs.declared.reply.Reply.TheVariants as r
 use Rattle.rdo_ast.specs.declared.reply.Standing.{Standing}
 use Rattle.rdo_ast.specs.declared.reply.Standing.TheVariants.{Closed, ReadOnly, ReadWrite}
-use Rattle.rdo_ast.specs.Tree.{Name, Act, Command, invoke, start_read_only, start_read_write, commit, rollback, finish, perform, define_field, define_relation, define_index, delete_relation, delete_index, Uttered, said, syntax_fault}
+use Rattle.rdo_ast.specs.Tree.{Name, Act, Command, invoke, start_read_only, start_read_write, commit, rollback, finish, back_up, perform, define_field, define_relation, define_index, delete_relation, delete_index, Uttered, said, syntax_fault}
 use Rattle.rdb_meaning.specs.declared.tables.Relation.{Relation}
 use Rattle.rdb_meaning.specs.declared.tables.Index.{Index}
 use Rattle.rdb_meaning.specs.declared.tables.Tables.{Tables}
@@ -123,6 +123,7 @@ standing_refusal (start_read_write wait rs) standing = needs_closed standing
 standing_refusal commit standing = needs_open standing
 standing_refusal rollback standing = needs_open standing
 standing_refusal finish standing = needs_closed standing
+standing_refusal (back_up n) standing = needs_closed standing
 standing_refusal (perform a) standing = act_standing_refusal a standing
 standing_refusal (define_field n type) standing = needs_read_write standing
 standing_refusal (define_relation n fs) standing = needs_read_write standing

@@ -4,7 +4,7 @@ use Rattle.rdb_types.specs.declared.keys.Dbkey.{Dbkey}
 use Rattle.rdo_ast.specs.declared.reply.Reply.{Reply}
 use Rattle.rdo_ast.specs.declared.reply.Reply.TheVariants as r
 use Rattle.rdo_ast.specs.declared.reply.Standing.{Standing}
-use Rattle.rdo_ast.specs.Tree.{Command, invoke, start_read_only, start_read_write, commit, rollback, finish, perform, define_field, define_relation, define_index, delete_relation, delete_index}
+use Rattle.rdo_ast.specs.Tree.{Command, invoke, start_read_only, start_read_write, commit, rollback, finish, back_up, perform, define_field, define_relation, define_index, delete_relation, delete_index}
 use Rattle.rdb_meaning.specs.declared.tables.Tables.{Tables}
 use Rattle.rdb_meaning.specs.Checks.{Refusal}
 use Rattle.rdb_meaning.specs.Meaning.{means, command_meaning, unless, doing}
@@ -23,6 +23,7 @@ definition_means word (start_read_write wait rs) s ks t e = absurd (cc)
 definition_means word commit s ks t e = absurd (cc)
 definition_means word rollback s ks t e = absurd (cc)
 definition_means word finish s ks t e = absurd (cc)
+definition_means word (back_up n) s ks t e = absurd (cc)
 definition_means word (perform a) s ks t e = absurd (cc)
 
 -- nothing refuses it

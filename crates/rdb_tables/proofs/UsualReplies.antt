@@ -8,7 +8,7 @@ use Rattle.rdo_ast.specs.declared.syntax.Range.{Range}
 use Rattle.rdo_ast.specs.declared.syntax.Clause.{Clause}
 use Rattle.rdo_ast.specs.declared.syntax.Clause.TheVariants.{Sorted, Reduced}
 use Rattle.rdo_ast.specs.declared.syntax.Reservation.{Reservation}
-use Rattle.rdo_ast.specs.Tree.{Name, Expression, number, text, field, negative, chain, count, statistic, Operations, no_operation, operation, Testing, compare, between, containing, starting_with, missing, any, negated, group, Conjunction, no_test, test, Condition, no_conjunction, conjunction, Ranging, ranging, With, without_condition, with_condition, Assignment, Shown, value, all_fields, Act, store, for_each, print, modify, erase, Acts, no_act, act, Command, invoke, start_read_only, start_read_write, commit, rollback, finish, perform, define_field, define_relation, define_index, delete_relation, delete_index}
+use Rattle.rdo_ast.specs.Tree.{Name, Expression, number, text, field, negative, chain, count, statistic, Operations, no_operation, operation, Testing, compare, between, containing, starting_with, missing, any, negated, group, Conjunction, no_test, test, Condition, no_conjunction, conjunction, Ranging, ranging, With, without_condition, with_condition, Assignment, Shown, value, all_fields, Act, store, for_each, print, modify, erase, Acts, no_act, act, Command, invoke, start_read_only, start_read_write, commit, rollback, finish, back_up, perform, define_field, define_relation, define_index, delete_relation, delete_index}
 use Rattle.rdb_meaning.specs.declared.tables.Tables.{Tables}
 use Rattle.std.specs.Prelude.{◌&&◌, if◌then◌else◌, nat_lt}
 use Rattle.std.specs.FinMap.Entries.{find}
@@ -211,6 +211,7 @@ usual_definition_of (start_read_write w rs) s t = tt
 usual_definition_of commit s t = tt
 usual_definition_of rollback s t = tt
 usual_definition_of finish s t = tt
+usual_definition_of (back_up n) s t = tt
 usual_definition_of (perform a) s t = tt
 
 -- what a definition or a deletion is refused for

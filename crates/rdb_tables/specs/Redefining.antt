@@ -4,7 +4,7 @@ use Rattle.std.specs.FinMap.Entries.{find}
 use Rattle.rdb_types.specs.declared.keys.Dbkey.{Dbkey}
 use Rattle.rdb_types.specs.declared.memory.NoMemory.{NoMemory}
 use Rattle.rdo_ast.specs.declared.reply.Standing.{Standing}
-use Rattle.rdo_ast.specs.Tree.{Command, invoke, start_read_only, start_read_write, commit, rollback, finish, define_field, define_relation, define_index, delete_relation, delete_index}
+use Rattle.rdo_ast.specs.Tree.{Command, invoke, start_read_only, start_read_write, commit, rollback, finish, back_up, define_field, define_relation, define_index, delete_relation, delete_index}
 use Rattle.rdb_meaning.specs.declared.tables.Tables.{Tables}
 use Rattle.rdb_meaning.specs.Contents.{relation_named}
 use Rattle.rdb_types.specs.Order.{chars_order}
@@ -29,6 +29,7 @@ leaves_tables (start_read_write wait rs) = true
 leaves_tables commit = true
 leaves_tables rollback = true
 leaves_tables finish = true
+leaves_tables (back_up n) = true
 leaves_tables _ = false
 
 abbrev pub refusal_of : Command → Standing → Tables → Refusal

@@ -126,7 +126,8 @@ pub fn does(
             | Statement::StartReadWrite { .. }
             | Statement::Commit
             | Statement::Rollback
-            | Statement::Finish),
+            | Statement::Finish
+            | Statement::BackUp(_)),
         ) => transaction(alloc, tables, word, standing, statement),
     }
 }

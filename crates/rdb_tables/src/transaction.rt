@@ -15,7 +15,7 @@ use rdo_ast::reply::{Reply, Standing};
 use rdo_ast::syntax::{Reservations, Statement};
 use std::alloc::Global;
 
-/// Does a statement that changes no table: INVOKE, START_TRANSACTION, COMMIT, ROLLBACK and FINISH.
+/// Does a statement that changes no table: INVOKE, START_TRANSACTION, COMMIT, ROLLBACK, FINISH and an online backup.
 #[tactic(auto, using(crate::proofs::Commands::invoke_means, crate::proofs::Commands::start_means))]
 pub fn transaction(
     alloc: Global,
@@ -43,7 +43,7 @@ pub fn transaction(
             Standing::Closed => Ok(Told::plain(alloc, Reply::NoTransaction, Standing::Closed)),
             _ => Ok(Told::done(alloc, Standing::Closed)),
         },
-        Statement::Finish => match standing {
+        Statement::Finish | Statement::BackUp(_) => match standing {
             Standing::Closed => Ok(Told::done(alloc, Standing::Closed)),
             _ => in_transaction(alloc, standing),
         },

@@ -5,6 +5,7 @@ use Rattle.rdb_account.specs.Events.{Event}
 use Rattle.rdb_account.specs.Places.{Opening}
 use Rattle.session_jobs.specs.Records.{Model}
 use Rattle.session_states.specs.declared.item_queue.WholeScript.{WholeScript}
+use Rattle.workload_runs.specs.line_runs.Backups.{HoldsBackups}
 use Rattle.workload_runs.specs.line_runs.Openings.{OpensWith, said_to}
 use Rattle.workload_runs.specs.line_runs.Prefix.{HoldsAll, HoldsPrefix}
 use Rattle.command_words.specs.declared.deaths.Death.{Death}
@@ -32,17 +33,26 @@ module _ (M : Model) (v : View) (o : Opening) (events : List Event) where
   pub prefix-of-word : (death : Option Death) (u w : List ℕ) (scripts : List WholeScript) → u ≡ w → HoldsPrefix M (said_to (letting death o) u scripts) v events → HoldsPrefix M (said_to (letting death o) w scripts) v events
   prefix-of-word death u w scripts e h = subst (λ (x : List ℕ). HoldsPrefix M (said_to (letting death o) x scripts) v events) e h
 
+  pub backups-of-word : (death : Option Death) (u w : List ℕ) (scripts : List WholeScript) → u ≡ w → HoldsBackups M (said_to (letting death o) u scripts) v events → HoldsBackups M (said_to (letting death o) w scripts) v events
+  backups-of-word death u w scripts e h = subst (λ (x : List ℕ). HoldsBackups M (said_to (letting death o) x scripts) v events) e h
+
   pub all-of-word : (death : Option Death) (u w : List ℕ) (scripts : List WholeScript) → u ≡ w → HoldsAll M (said_to (letting death o) u scripts) v events → HoldsAll M (said_to (letting death o) w scripts) v events
   all-of-word death u w scripts e h = subst (λ (x : List ℕ). HoldsAll M (said_to (letting death o) x scripts) v events) e h
 
   pub prefix-of-scripts : (death : Option Death) (word : List ℕ) (a b : List WholeScript) → a ≡ b → HoldsPrefix M (said_to (letting death o) word a) v events → HoldsPrefix M (said_to (letting death o) word b) v events
   prefix-of-scripts death word a b e h = subst (λ (x : List WholeScript). HoldsPrefix M (said_to (letting death o) word x) v events) e h
 
+  pub backups-of-scripts : (death : Option Death) (word : List ℕ) (a b : List WholeScript) → a ≡ b → HoldsBackups M (said_to (letting death o) word a) v events → HoldsBackups M (said_to (letting death o) word b) v events
+  backups-of-scripts death word a b e h = subst (λ (x : List WholeScript). HoldsBackups M (said_to (letting death o) word x) v events) e h
+
   pub all-of-scripts : (death : Option Death) (word : List ℕ) (a b : List WholeScript) → a ≡ b → HoldsAll M (said_to (letting death o) word a) v events → HoldsAll M (said_to (letting death o) word b) v events
   all-of-scripts death word a b e h = subst (λ (x : List WholeScript). HoldsAll M (said_to (letting death o) word x) v events) e h
 
   pub prefix-of-given : (word : List ℕ) (left : ℕ → List ℕ) (m n : Scripts) → m ≡ n → HoldsPrefix M (said_to (letting m.death o) word (scripts_of left m.count)) v events → HoldsPrefix M (said_to (letting n.death o) word (scripts_of left n.count)) v events
   prefix-of-given word left m n e h = subst (λ (x : Scripts). HoldsPrefix M (said_to (letting x.death o) word (scripts_of left x.count)) v events) e h
+
+  pub backups-of-given : (word : List ℕ) (left : ℕ → List ℕ) (m n : Scripts) → m ≡ n → HoldsBackups M (said_to (letting m.death o) word (scripts_of left m.count)) v events → HoldsBackups M (said_to (letting n.death o) word (scripts_of left n.count)) v events
+  backups-of-given word left m n e h = subst (λ (x : Scripts). HoldsBackups M (said_to (letting x.death o) word (scripts_of left x.count)) v events) e h
 
   pub all-of-given : (word : List ℕ) (left : ℕ → List ℕ) (m n : Scripts) → m ≡ n → HoldsAll M (said_to (letting m.death o) word (scripts_of left m.count)) v events → HoldsAll M (said_to (letting n.death o) word (scripts_of left n.count)) v events
   all-of-given word left m n e h = subst (λ (x : Scripts). HoldsAll M (said_to (letting x.death o) word (scripts_of left x.count)) v events) e h

@@ -19,6 +19,7 @@ ghost use Rattle.workload_runs.specs.line_cluster.Sound.{FollowsScripts, MayFail
 ghost use Rattle.workload_runs.specs.line_cluster.Turned.{HaveAllEnded};
 ghost use Rattle.workload_runs.specs.line_drive.Boards.{mortals_of};
 ghost use Rattle.workload_runs.specs.line_drive.Turns.{KeepsTurns};
+ghost use Rattle.workload_runs.specs.line_runs.Backups.{HoldsBackups};
 ghost use Rattle.workload_runs.specs.line_runs.Openings.{HasNoNumbers, HasSpent, OpensWith, said_to};
 ghost use Rattle.workload_runs.specs.line_runs.Prefix.{HoldsAll, HoldsPrefix, StandsFor};
 ghost use Rattle.backup_making.specs.Making.{file_of as backup_named};
@@ -114,6 +115,7 @@ fn run_of<
     ensures whole { O.told → result.is_whole ≡ true → HaveAllEnded O.opening O.sessions (map event_of result.events) }
     ensures order { given.has_order ≡ true → O.told → result.is_whole ≡ true → KeepsTurns O.opening O.sessions order.now result.events }
     ensures images { O.told → result.fault ≡ None → HoldsPrefix ⟦<ReservingStatements as Statements>⟧.stands O.opening (D.view result.disk) (map event_of result.events) }
+    ensures backups { O.told → result.fault ≡ None → HoldsBackups ⟦<ReservingStatements as Statements>⟧.stands O.opening (D.view result.disk) (map event_of result.events) }
     ensures left { O.told → result.is_whole ≡ true → HoldsAll ⟦<ReservingStatements as Statements>⟧.stands O.opening (D.view result.disk) (map event_of result.events) }
     ensures harmed { O.told → RoseBy (failures (map event_of result.events) result.halt) (D.view disk).faults (D.view result.disk).faults }
     ensures stopped { result.halt ≡ Some (Halt.Device Fault.Failed) → Rose (D.view disk).faults (D.view result.disk).faults }
@@ -188,6 +190,7 @@ fn say_scripts<
     ensures order { asked.entry.given.has_order ≡ true → O.told → result.is_whole ≡ true →
         KeepsTurns (said_to (letting asked.entry.given.death O.opening) (word_of asked.entry.words.now) scripts.items) asked.entry.given.count (order_in asked.entry.words.now) result.events }
     ensures images { O.told → result.fault ≡ None → HoldsPrefix ⟦<ReservingStatements as Statements>⟧.stands (said_to (letting asked.entry.given.death O.opening) (word_of asked.entry.words.now) scripts.items) (D.view result.disk) (map event_of result.events) }
+    ensures backups { O.told → result.fault ≡ None → HoldsBackups ⟦<ReservingStatements as Statements>⟧.stands (said_to (letting asked.entry.given.death O.opening) (word_of asked.entry.words.now) scripts.items) (D.view result.disk) (map event_of result.events) }
     ensures left { O.told → result.is_whole ≡ true → HoldsAll ⟦<ReservingStatements as Statements>⟧.stands (said_to (letting asked.entry.given.death O.opening) (word_of asked.entry.words.now) scripts.items) (D.view result.disk) (map event_of result.events) }
     ensures harmed { O.told → RoseBy (failures (map event_of result.events) result.halt) (D.view disk).faults (D.view result.disk).faults }
     ensures stopped { result.halt ≡ Some (Halt.Device Fault.Failed) → Rose (D.view disk).faults (D.view result.disk).faults }
@@ -256,6 +259,8 @@ fn run_rdo<
         KeepsTurns (said_to (letting asked.entry.given.death O.opening) (word_of asked.entry.words.now) (scripts_of (S.left scripts.old) asked.entry.given.count)) asked.entry.given.count (order_in asked.entry.words.now) result.events }
     ensures images { O.told → S.tells scripts.old ≡ true → (result.events ≡ [] → ⊥) →
         HoldsPrefix ⟦<ReservingStatements as Statements>⟧.stands (said_to (letting asked.entry.given.death O.opening) (word_of asked.entry.words.now) (scripts_of (S.left scripts.old) asked.entry.given.count)) (D.view result.disk) (map event_of result.events) }
+    ensures backups { O.told → S.tells scripts.old ≡ true → (result.events ≡ [] → ⊥) →
+        HoldsBackups ⟦<ReservingStatements as Statements>⟧.stands (said_to (letting asked.entry.given.death O.opening) (word_of asked.entry.words.now) (scripts_of (S.left scripts.old) asked.entry.given.count)) (D.view result.disk) (map event_of result.events) }
     ensures left { O.told → S.tells scripts.old ≡ true → IsWhole result.status →
         HoldsAll ⟦<ReservingStatements as Statements>⟧.stands (said_to (letting asked.entry.given.death O.opening) (word_of asked.entry.words.now) (scripts_of (S.left scripts.old) asked.entry.given.count)) (D.view result.disk) (map event_of result.events) }
     ensures written { K.tells out.old ≡ true → IsWritten result.status → K.taken out.new ≡ K.taken out.old ++ transcripts asked.entry.given.count result.events }
@@ -332,6 +337,10 @@ where
     // or a later one.
     ensures images { (given : GivenScripts) → command_for words.now ≡ Some (Command.Rdo given) → O.told → S.tells scripts.old ≡ true → (result.events ≡ [] → ⊥) →
         HoldsPrefix ⟦<ReservingStatements as Statements>⟧.stands (said_to (letting given.death O.opening) (word_of words.now) (scripts_of (S.left scripts.old) given.count)) (D.view result.disk) (map event_of result.events) }
+    // An online backup that was answered as done counts as long as no backup of its number was begun since: each image that a crash
+    // might have left since then has it whole, of lines that stand for the tables that its reader saw.
+    ensures backups { (given : GivenScripts) → command_for words.now ≡ Some (Command.Rdo given) → O.told → S.tells scripts.old ≡ true → (result.events ≡ [] → ⊥) →
+        HoldsBackups ⟦<ReservingStatements as Statements>⟧.stands (said_to (letting given.death O.opening) (word_of words.now) (scripts_of (S.left scripts.old) given.count)) (D.view result.disk) (map event_of result.events) }
     // Where every session that lived came to its end, for the tables of all commits.
     ensures left { (given : GivenScripts) → command_for words.now ≡ Some (Command.Rdo given) → O.told → S.tells scripts.old ≡ true → IsWhole result.status →
         HoldsAll ⟦<ReservingStatements as Statements>⟧.stands (said_to (letting given.death O.opening) (word_of words.now) (scripts_of (S.left scripts.old) given.count)) (D.view result.disk) (map event_of result.events) }

@@ -88,6 +88,8 @@ pub data Command : Type 0 where
   commit : Command
   rollback : Command
   finish : Command
+  -- the lines that are committed now go into the backup of this number
+  back_up : ℕ → Command
   perform : Act → Command
   define_field : Name → FieldType → Command
   define_relation : Name → List FieldDefinition → Command

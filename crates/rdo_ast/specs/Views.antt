@@ -20,7 +20,7 @@ use Rattle.rdo_ast.specs.declared.syntax.Statement.{Statement}
 use Rattle.rdo_ast.specs.declared.syntax.Statement.TheVariants as s
 use Rattle.rdo_ast.specs.declared.syntax.Item.{Item}
 use Rattle.rdo_ast.specs.declared.syntax.Item.TheVariants as i
-use Rattle.rdo_ast.specs.Tree.{Expression, number, text, field, negative, chain, count, statistic, Operations, no_operation, operation, Testing, compare, between, containing, starting_with, missing, any, negated, group, Conjunction, no_test, test, Condition, no_conjunction, conjunction, Ranging, ranging, With, without_condition, with_condition, Assignment, Shown, value, all_fields, Act, store, for_each, print, modify, erase, Acts, no_act, act, Command, invoke, start_read_only, start_read_write, commit, rollback, finish, perform, define_field, define_relation, define_index, delete_relation, delete_index, Uttered, said, syntax_fault}
+use Rattle.rdo_ast.specs.Tree.{Expression, number, text, field, negative, chain, count, statistic, Operations, no_operation, operation, Testing, compare, between, containing, starting_with, missing, any, negated, group, Conjunction, no_test, test, Condition, no_conjunction, conjunction, Ranging, ranging, With, without_condition, with_condition, Assignment, Shown, value, all_fields, Act, store, for_each, print, modify, erase, Acts, no_act, act, Command, invoke, start_read_only, start_read_write, commit, rollback, finish, back_up, perform, define_field, define_relation, define_index, delete_relation, delete_index, Uttered, said, syntax_fault}
 
 -- an operator and its operand, as they are found in a list
 pub record Applied : Type 0 where
@@ -121,6 +121,7 @@ command_of (s.StartReadWrite wait rs) = start_read_write wait rs
 command_of s.Commit = commit
 command_of s.Rollback = rollback
 command_of s.Finish = finish
+command_of (s.BackUp n) = back_up n
 command_of (s.Act a) = perform (act_of a)
 command_of (s.DefineField n t) = define_field n t
 command_of (s.DefineRelation n fs) = define_relation n fs

@@ -1,4 +1,5 @@
 //! The syntax tree of a statement. Chains of `+` and `-`, of `*`, of AND and of OR are lists, so that no tree is deeper than the constructs that are open at one place of its text.
+use crate::backup::BackupNumber;
 use rdb_types::{Boxed, Chars, FieldType, Items};
 
 /// `E.K`: a variable and a field.
@@ -193,6 +194,8 @@ pub enum Statement {
     Commit,
     Rollback,
     Finish,
+    /// `$ RMU/BACKUP/ONLINE n`: the lines that are committed now go into the backup of this number.
+    BackUp(BackupNumber),
     Act(Action),
     DefineField(Chars, FieldType),
     DefineRelation(Chars, Items<FieldDefinition>),
@@ -202,8 +205,20 @@ pub enum Statement {
 }
 
 /// What a script holds: a statement, or the line and column of a token with which no statement goes on.
-#[derive(Drop)]
 pub enum Item {
     Statement(Statement),
     SyntaxAt { line: u32, column: u32 },
+}
+
+// By hand, so that it is one call wherever one is let go.
+impl Drop for Item {
+    fn drop(self) {
+        match self {
+            Item::Statement(_statement) => {}
+            Item::SyntaxAt {
+                line: _line,
+                column: _column,
+            } => {}
+        }
+    }
 }

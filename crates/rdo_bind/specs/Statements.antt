@@ -1,7 +1,7 @@
 -- Bound statements: which are refused before they are bound, what one was written as, and when it is bound.
 use Rattle.std.specs.Prelude.{[], None}
 use Rattle.rdo_ast.specs.declared.reply.Standing.{Standing}
-use Rattle.rdo_ast.specs.Tree.{Command, invoke, start_read_only, start_read_write, commit, rollback, finish, perform, define_field, define_relation, define_index, delete_relation, delete_index}
+use Rattle.rdo_ast.specs.Tree.{Command, invoke, start_read_only, start_read_write, commit, rollback, finish, back_up, perform, define_field, define_relation, define_index, delete_relation, delete_index}
 use Rattle.rdb_meaning.specs.declared.tables.Tables.{Tables}
 use Rattle.rdb_meaning.specs.Checks.{Refusal}
 use Rattle.rdb_meaning.specs.Meaning.{act_refusal}
@@ -21,6 +21,7 @@ written_command (s.StartReadWrite wait rs) = start_read_write wait rs
 written_command s.Commit = commit
 written_command s.Rollback = rollback
 written_command s.Finish = finish
+written_command (s.BackUp n) = back_up n
 written_command (s.Act a) = perform (named_act (act_of a))
 written_command (s.DefineField n kind) = define_field n kind
 written_command (s.DefineRelation n fs) = define_relation n fs

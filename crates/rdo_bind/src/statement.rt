@@ -10,6 +10,7 @@ use crate::action::{BoundAction, bind_action};
 use rdb_checks::{Stop, check_action};
 use rdb_meaning::Tables;
 use rdb_types::{Chars, FieldType, Items};
+use rdo_ast::backup::BackupNumber;
 use rdo_ast::reply::Standing;
 use rdo_ast::syntax::{Action, FieldDefinition, IndexDefinition, Reservations, Statement};
 use std::alloc::Global;
@@ -27,6 +28,7 @@ pub enum BoundStatement {
     Commit,
     Rollback,
     Finish,
+    BackUp(BackupNumber),
     Act(BoundAction),
     DefineField(Chars, FieldType),
     DefineRelation(Chars, Items<FieldDefinition>),
@@ -71,6 +73,7 @@ pub fn bind(
         Statement::Commit => Ok(BoundStatement::Commit),
         Statement::Rollback => Ok(BoundStatement::Rollback),
         Statement::Finish => Ok(BoundStatement::Finish),
+        Statement::BackUp(number) => Ok(BoundStatement::BackUp(number)),
         Statement::Act(action) => {
             let action = bind_checked(alloc, tables, standing, &action)?;
             Ok(BoundStatement::Act(action))

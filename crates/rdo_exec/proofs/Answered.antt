@@ -17,7 +17,7 @@ use Rattle.session_jobs.specs.declared.jobs.Job.{Job}
 use Rattle.session_jobs.specs.Jobs.{NamesNoNeed, HasCause}
 use Rattle.rdo_ast.specs.declared.reply.Reply.{Reply}
 use Rattle.rdo_ast.specs.declared.reply.Standing.{Standing}
-use Rattle.rdo_ast.specs.Tree.{Uttered, said, syntax_fault, invoke, start_read_only, start_read_write, commit, rollback, finish, perform, define_field, define_relation, define_index, delete_relation, delete_index}
+use Rattle.rdo_ast.specs.Tree.{Uttered, said, syntax_fault, invoke, start_read_only, start_read_write, commit, rollback, finish, back_up, perform, define_field, define_relation, define_index, delete_relation, delete_index}
 use Rattle.rdb_meaning.specs.declared.tables.Tables.{Tables}
 use Rattle.rdb_meaning.specs.Usual.{is_refusal_of_means}
 use Rattle.line_view.specs.declared.need.Need.{Need}
@@ -152,6 +152,7 @@ refused_first word standing (said (start_read_write wait rs)) reply t is = unles
 refused_first word standing (said commit) reply t is = unless_some (needs_open standing) None t standing _ reply is
 refused_first word standing (said rollback) reply t is = unless_some (needs_open standing) None t standing _ reply is
 refused_first word standing (said finish) reply t is = unless_some (needs_closed standing) None t standing _ reply is
+refused_first word standing (said (back_up n)) reply t is = unless_some (needs_closed standing) None t standing _ reply is
 refused_first word standing (said (define_field n type)) reply t is = unless_some (needs_read_write standing) (field_names n t) t standing _ reply is
 refused_first word standing (said (define_relation n fs)) reply t is = unless_some (needs_read_write standing) (relation_names n fs t) t standing _ reply is
 refused_first word standing (said (define_index d)) reply t is = unless_some (needs_read_write standing) (later_refusal word (define_index d) standing t) t standing _ reply is

@@ -3,7 +3,7 @@ use Rattle.std.proofs.Common.{◌≡◌, inl, inr, ℕ, List, [], Some, None, Re
 use Rattle.rdo_ast.specs.declared.reply.Reply.{Reply}
 use Rattle.rdo_ast.specs.declared.reply.Reply.TheVariants as r
 use Rattle.rdo_ast.specs.declared.reply.Standing.{Standing}
-use Rattle.rdo_ast.specs.Tree.{Command, Uttered, said, invoke, start_read_only, start_read_write, commit, rollback, finish, perform, define_field, define_relation, define_index, delete_relation, delete_index}
+use Rattle.rdo_ast.specs.Tree.{Command, Uttered, said, invoke, start_read_only, start_read_write, commit, rollback, finish, back_up, perform, define_field, define_relation, define_index, delete_relation, delete_index}
 use Rattle.rdb_meaning.specs.declared.tables.Tables.{Tables}
 use Rattle.rdb_meaning.specs.Checks.{Refusal}
 use Rattle.rdb_meaning.specs.Defining.{with_field, with_relation, with_index, without_relation, without_index}
@@ -55,6 +55,7 @@ does_define word (start_read_write wait rs) standing t is free = absurd is
 does_define word commit standing t is free = absurd is
 does_define word rollback standing t is free = absurd is
 does_define word finish standing t is free = absurd is
+does_define word (back_up n) standing t is free = absurd is
 does_define word (perform a) standing t is free = absurd is
 
 does_refuse : (word : List ℕ) (command : Command) (standing : Standing) (t : Tables) (reply : Reply) → IsDefining command → command_refusal word command standing t ≡ Some reply →
@@ -70,6 +71,7 @@ does_refuse word (start_read_write wait rs) standing t reply is refuses = absurd
 does_refuse word commit standing t reply is refuses = absurd is
 does_refuse word rollback standing t reply is refuses = absurd is
 does_refuse word finish standing t reply is refuses = absurd is
+does_refuse word (back_up n) standing t reply is refuses = absurd is
 does_refuse word (perform a) standing t reply is refuses = absurd is
 
 -- a refusal that isn't the language's

@@ -3,7 +3,7 @@ use Rattle.std.proofs.Common.{◌≡◌, ◌⊎◌, inl, inr, List, [], Option, 
 use Rattle.rdb_types.specs.declared.keys.Dbkey.{Dbkey}
 use Rattle.rdo_ast.specs.declared.reply.Reply.{Reply}
 use Rattle.rdo_ast.specs.declared.reply.Standing.{Standing}
-use Rattle.rdo_ast.specs.Tree.{Act, Command, Uttered, said, syntax_fault, invoke, start_read_only, start_read_write, commit, rollback, finish, perform, define_field, define_relation, define_index, delete_relation, delete_index}
+use Rattle.rdo_ast.specs.Tree.{Act, Command, Uttered, said, syntax_fault, invoke, start_read_only, start_read_write, commit, rollback, finish, back_up, perform, define_field, define_relation, define_index, delete_relation, delete_index}
 use Rattle.rdb_meaning.specs.declared.tables.Tables.{Tables}
 use Rattle.line_view.specs.declared.need.Need.{Need}
 use Rattle.line_view.specs.declared.need.Need.TheVariants.{Line, Area, Room}
@@ -49,6 +49,7 @@ item_names_none (start_read_write wait rs) known f h = tt
 item_names_none commit known f h = tt
 item_names_none rollback known f h = tt
 item_names_none finish known f h = tt
+item_names_none (back_up n) known f h = tt
 item_names_none (define_field n type) known f h = tt
 item_names_none (define_relation n fs) known f h = tt
 item_names_none (define_index d) known f h = tt
@@ -67,6 +68,7 @@ defining_needs (start_read_write wait rs) known f way = tt
 defining_needs commit known f way = tt
 defining_needs rollback known f way = tt
 defining_needs finish known f way = tt
+defining_needs (back_up n) known f way = tt
 defining_needs (define_field n type) known f way = tt
 defining_needs (define_relation n fs) known f way = tt
 defining_needs (define_index d) known f way = tt
@@ -81,6 +83,7 @@ reserving_needs (start_read_write wait rs) known f way = tt
 reserving_needs commit known f way = tt
 reserving_needs rollback known f way = tt
 reserving_needs finish known f way = tt
+reserving_needs (back_up n) known f way = tt
 reserving_needs (define_field n type) known f way = tt
 reserving_needs (define_relation n fs) known f way = tt
 reserving_needs (define_index d) known f way = tt
@@ -105,6 +108,7 @@ unread_needs (start_read_write wait rs) known why h = tt
 unread_needs commit known why h = tt
 unread_needs rollback known why h = tt
 unread_needs finish known why h = tt
+unread_needs (back_up n) known why h = tt
 unread_needs (define_field n type) known why h = tt
 unread_needs (define_relation n fs) known why h = tt
 unread_needs (define_index d) known why h = tt

@@ -7,7 +7,7 @@ use Rattle.rdb_types.specs.declared.keys.Dbkey.{Dbkey}
 use Rattle.rdb_types.specs.Order.{chars_order}
 use Rattle.rdo_ast.specs.declared.reply.Reply.{Reply}
 use Rattle.rdo_ast.specs.declared.reply.Standing.{Standing}
-use Rattle.rdo_ast.specs.Tree.{Act, Command, Uttered, said, invoke, start_read_only, start_read_write, commit, rollback, finish, perform, define_field, define_relation, define_index, delete_relation, delete_index}
+use Rattle.rdo_ast.specs.Tree.{Act, Command, Uttered, said, invoke, start_read_only, start_read_write, commit, rollback, finish, back_up, perform, define_field, define_relation, define_index, delete_relation, delete_index}
 use Rattle.rdb_meaning.specs.declared.tables.Tables.{Tables}
 use Rattle.rdb_meaning.specs.Checks.{Use, use_of, act_uses}
 use Rattle.rdb_meaning.specs.Meaning.{standing_refusal, index_uses}
@@ -104,6 +104,7 @@ catalog_asks standing (start_read_write wait rs) t none way = absurd way
 catalog_asks standing commit t none way = absurd way
 catalog_asks standing rollback t none way = absurd way
 catalog_asks standing finish t none way = absurd way
+catalog_asks standing (back_up n) t none way = absurd way
 
 -- needs and writes that are asked for by their areas
 pub found_asks : (standing : Standing) (item : Uttered) (t : Tables) (read changed : List ℕ) (f : Found) → ((need : Need) → IsNeedOf read changed need → AsksFor standing item t (is_lock_for item need)) →

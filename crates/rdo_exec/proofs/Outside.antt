@@ -6,7 +6,7 @@ use Rattle.rdo_ast.specs.declared.reply.Reply.{Reply}
 use Rattle.rdo_ast.specs.declared.reply.Reply.TheVariants as r
 use Rattle.rdo_ast.specs.declared.reply.Standing.{Standing}
 use Rattle.rdo_ast.specs.declared.reply.Standing.TheVariants.{Closed}
-use Rattle.rdo_ast.specs.Tree.{Command, Uttered, said, syntax_fault, invoke, start_read_only, start_read_write, commit, rollback, finish, perform, define_field, define_relation, define_index, delete_relation, delete_index}
+use Rattle.rdo_ast.specs.Tree.{Command, Uttered, said, syntax_fault, invoke, start_read_only, start_read_write, commit, rollback, finish, back_up, perform, define_field, define_relation, define_index, delete_relation, delete_index}
 use Rattle.rdb_meaning.specs.Checks.{is_retrieval}
 use Rattle.rdb_meaning.specs.Meaning.{standing_refusal}
 use Rattle.rdb_meaning.specs.Usual.{is_refusal_of_means}
@@ -53,6 +53,7 @@ unranged_begins (start_read_write wait rs) none way nothing = way
 unranged_begins commit none way nothing = way
 unranged_begins rollback none way nothing = way
 unranged_begins finish none way nothing = way
+unranged_begins (back_up n) none way nothing = way
 
 -- ---- what is refused there
 
@@ -79,6 +80,7 @@ refused_usual (invoke words) reply is = let bad : ⊥ = cc in absurd bad
 refused_usual start_read_only reply is = let bad : ⊥ = cc in absurd bad
 refused_usual (start_read_write wait rs) reply is = let bad : ⊥ = cc in absurd bad
 refused_usual finish reply is = let bad : ⊥ = cc in absurd bad
+refused_usual (back_up n) reply is = let bad : ⊥ = cc in absurd bad
 
 usual_outside : (item : Uttered) (reply : Reply) → first_refusal Closed item ≡ Some reply → IsUsual reply
 usual_outside (syntax_fault line column) reply is = subst IsUsual (same_Some (r.Syntax line column) reply is) refl

@@ -6,7 +6,7 @@ use Rattle.rdo_ast.specs.declared.reply.Standing.TheVariants.{Closed, ReadOnly, 
 use Rattle.rdo_ast.specs.declared.syntax.Action.{Action}
 use Rattle.rdo_ast.specs.declared.syntax.Statement.{Statement}
 use Rattle.rdo_ast.specs.declared.syntax.Statement.TheVariants as s
-use Rattle.rdo_ast.specs.Tree.{Command, said, invoke, start_read_only, start_read_write, commit, rollback, finish, perform, define_field, define_relation, define_index, delete_relation, delete_index}
+use Rattle.rdo_ast.specs.Tree.{Command, said, invoke, start_read_only, start_read_write, commit, rollback, finish, back_up, perform, define_field, define_relation, define_index, delete_relation, delete_index}
 use Rattle.rdo_ast.specs.Views.{command_of}
 use Rattle.rdb_meaning.specs.Checks.{is_retrieval}
 use Rattle.rdb_meaning.specs.Meaning.{needs_closed, needs_read_write, standing_refusal}
@@ -23,6 +23,7 @@ defining_not_act (s.StartReadWrite wait rs) never way = absurd way
 defining_not_act s.Commit never way = absurd way
 defining_not_act s.Rollback never way = absurd way
 defining_not_act s.Finish never way = absurd way
+defining_not_act (s.BackUp n) never way = absurd way
 defining_not_act (s.DefineField n t) never way = tt
 defining_not_act (s.DefineRelation n fs) never way = tt
 defining_not_act (s.DefineIndex d) never way = tt
@@ -37,6 +38,7 @@ unranged_strange (start_read_write wait rs) is = absurd is
 unranged_strange commit is = absurd is
 unranged_strange rollback is = absurd is
 unranged_strange finish is = absurd is
+unranged_strange (back_up n) is = absurd is
 unranged_strange (define_field n type) is = absurd is
 unranged_strange (define_relation n fs) is = absurd is
 unranged_strange (define_index d) is = absurd is
@@ -56,6 +58,7 @@ defining_writes (start_read_write wait rs) standing is none = absurd is
 defining_writes commit standing is none = absurd is
 defining_writes rollback standing is none = absurd is
 defining_writes finish standing is none = absurd is
+defining_writes (back_up n) standing is none = absurd is
 
 pub naming_views : (command : Command) → NamesSome command → IsViewing command
 naming_views (perform a) is = is
@@ -70,6 +73,7 @@ naming_views (start_read_write wait rs) is = absurd is
 naming_views commit is = absurd is
 naming_views rollback is = absurd is
 naming_views finish is = absurd is
+naming_views (back_up n) is = absurd is
 
 pub defining_views : (command : Command) → IsDefining command → IsViewing command
 defining_views (perform a) is = absurd is
@@ -84,6 +88,7 @@ defining_views (start_read_write wait rs) is = absurd is
 defining_views commit is = absurd is
 defining_views rollback is = absurd is
 defining_views finish is = absurd is
+defining_views (back_up n) is = absurd is
 
 pub retrieval_begins : (b : Bool) → cond b None (Some r.NoTransaction) ≡ None → cond b (Some ReadOnly) None ≡ None → ⊥
 retrieval_begins true none nothing = let bad : ⊥ = cc in bad
@@ -103,6 +108,7 @@ viewing_begins (start_read_write wait rs) none way nothing = way
 viewing_begins commit none way nothing = way
 viewing_begins rollback none way nothing = way
 viewing_begins finish none way nothing = way
+viewing_begins (back_up n) none way nothing = way
 
 pub is_closed : (standing : Standing) → needs_closed standing ≡ None → standing ≡ Closed
 is_closed Closed none = refl
@@ -122,3 +128,4 @@ reserving_begins start_read_only way nothing = way
 reserving_begins commit way nothing = way
 reserving_begins rollback way nothing = way
 reserving_begins finish way nothing = way
+reserving_begins (back_up n) way nothing = way

@@ -1,7 +1,7 @@
 -- How an item is worked that the transaction that is open doesn't refuse.
 use Rattle.std.specs.Prelude.{◌≡◌, ◌&&◌, Bool, true, false, List, [], ◌∷◌}
 use Rattle.rdo_ast.specs.declared.syntax.Reservation.{Reservation}
-use Rattle.rdo_ast.specs.Tree.{Expression, number, text, field, negative, chain, count, statistic, Operations, no_operation, operation, Shown, value, all_fields, Act, store, for_each, print, modify, erase, Command, Uttered, said, syntax_fault, invoke, start_read_only, start_read_write, commit, rollback, finish, perform, define_field, define_relation, define_index, delete_relation, delete_index}
+use Rattle.rdo_ast.specs.Tree.{Expression, number, text, field, negative, chain, count, statistic, Operations, no_operation, operation, Shown, value, all_fields, Act, store, for_each, print, modify, erase, Command, Uttered, said, syntax_fault, invoke, start_read_only, start_read_write, commit, rollback, finish, back_up, perform, define_field, define_relation, define_index, delete_relation, delete_index}
 use Rattle.rdb_meaning.specs.Checks.{Use, source_uses, shown_uses, act_uses}
 use Rattle.rdb_meaning.specs.Evaluation.{sources_of}
 use Rattle.rdo_exec.specs.declared.way.Way.{Way}
@@ -56,6 +56,7 @@ IsPlain (start_read_write wait rs) = reserves rs ≡ false
 IsPlain commit = Unit {0}
 IsPlain rollback = Unit {0}
 IsPlain finish = Unit {0}
+IsPlain (back_up n) = Unit {0}
 IsPlain _ = ⊥
 
 abbrev pub IsReserving : Command → Type 0

@@ -42,7 +42,7 @@ pub(crate) fn read_write(
     Ok(Standing::ReadWrite { wait, reserved })
 }
 
-/// INVOKE, START_TRANSACTION without reservations, COMMIT, ROLLBACK and FINISH, which the transaction that is open doesn't refuse.
+/// INVOKE, START_TRANSACTION without reservations, COMMIT, ROLLBACK, FINISH and an online backup, which the transaction that is open doesn't refuse.
 pub(crate) fn plain(alloc: Global, word: &Word, standing: &Standing, statement: &Statement) -> Found
     requires plain { IsPlain (command_of statement.now) }
     requires standing { standing_refusal (command_of statement.now) standing.now ≡ None }
@@ -56,9 +56,8 @@ pub(crate) fn plain(alloc: Global, word: &Word, standing: &Standing, statement: 
         Statement::StartReadWrite { wait, reserved } => {
             answered_by(alloc, Ok(done(alloc)), read_write(alloc, *wait, reserved))
         }
-        Statement::Commit | Statement::Rollback | Statement::Finish => {
-            answered(alloc, done(alloc), Standing::Closed)
-        }
+        Statement::Commit | Statement::Rollback | Statement::Finish | Statement::BackUp(_) =>
+            answered(alloc, done(alloc), Standing::Closed),
         _ => unreachable!(),
     }
 }

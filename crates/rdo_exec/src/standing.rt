@@ -52,9 +52,10 @@ fn refused_by(standing: &Standing, statement: &Statement) -> Option<Reply>
 {
     match statement {
         Statement::Invoke(_) => None,
-        Statement::StartReadOnly | Statement::StartReadWrite { .. } | Statement::Finish => {
-            needs_closed(standing)
-        }
+        Statement::StartReadOnly
+        | Statement::StartReadWrite { .. }
+        | Statement::Finish
+        | Statement::BackUp(_) => needs_closed(standing),
         Statement::Commit | Statement::Rollback => needs_open(standing),
         Statement::Act(action) => refused_action(standing, action),
         Statement::DefineField(_, _)

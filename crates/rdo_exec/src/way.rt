@@ -55,7 +55,8 @@ pub(crate) fn way_of(statement: &Statement) -> Way
         | Statement::StartReadOnly
         | Statement::Commit
         | Statement::Rollback
-        | Statement::Finish => Way::Plain,
+        | Statement::Finish
+        | Statement::BackUp(_) => Way::Plain,
     }
 }
 

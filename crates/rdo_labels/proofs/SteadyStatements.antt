@@ -13,7 +13,7 @@ use Rattle.rdo_tokens.specs.Lex.{Text, same_kind, tokens}
 use Rattle.rdo_tokens.specs.Input.{Input, ◌>>=◌, pure, refuse, peek, take_token, kind, spelling, left, sees, same_name}
 use Rattle.rdo_labels.specs.Alike.{SameWords, Descends, ReadAlike, RefusedAlike, TextReadAlike, TextRefusedAlike}
 use Rattle.rdo_grammar.specs.Grammar.{point, max_nesting}
-use Rattle.rdo_parser.specs.Statements.{share_by, share_mode, writes_by, writes, reservation, reservations, wait_by, wait, reserving, read_write, start_by, start_transaction, integer_by, integer_type, scale, max_scale, text_type, max_text_size, signed_type, type_by, field_type, field_kind_by, field_kind, field_definition, pointed_field, fields_from, fields, define_relation, duplicates, index_type, pointed_name, index_fields_from, index_fields, index_head, define_index, define_field, define_by, define, delete_by, delete, invoke, statement_by, statement, pointed, max_fields, max_index_fields}
+use Rattle.rdo_parser.specs.Statements.{share_by, share_mode, writes_by, writes, reservation, reservations, wait_by, wait, reserving, read_write, start_by, start_transaction, integer_by, integer_type, scale, max_scale, text_type, max_text_size, signed_type, type_by, field_type, field_kind_by, field_kind, field_definition, pointed_field, fields_from, fields, define_relation, duplicates, index_type, pointed_name, index_fields_from, index_fields, index_head, define_index, define_field, define_by, define, delete_by, delete, invoke, back_up, max_backup, statement_by, statement, pointed, max_fields, max_index_fields}
 use Rattle.rdo_labels.proofs.Pairs.{ReachesAs, Steady, law_pure, law_refuse, law_bind, law_if, law_as}
 use Rattle.rdo_labels.proofs.Steps.{law_peek, law_take, law_expect, law_name, law_eat, law_text, law_whole, law_separated, comma_apart, spelled, law_spelled, if_at}
 use Rattle.rdo_labels.proofs.SteadyGrammar.{law_action_at}
@@ -139,6 +139,11 @@ law_invoke : Steady invoke
 unfolding invoke
 law_invoke = law_bind _ _ (law_expect k.Database) (λ _. law_bind _ _ (law_expect k.Filename) (λ _. law_bind _ _ law_text (λ t. law_pure _)))
 
+law_back_up : Steady back_up
+unfolding back_up
+law_back_up = law_bind _ _ (law_expect k.Rmu) (λ _. law_bind _ _ (law_expect k.Slash) (λ _. law_bind _ _ (law_expect k.Backup) (λ _. law_bind _ _ (law_expect k.Slash) (λ _. law_bind _ _ (law_expect k.Online)
+    (λ _. law_bind _ _ (law_whole 1 max_backup) (λ n. law_pure (s.BackUp n)))))))
+
 law_statement_by : (kind : Kind) → Steady (statement_by kind)
 unfolding start_transaction define delete
 law_statement_by k.Invoke = law_bind _ _ law_take (λ _. law_invoke)
@@ -146,6 +151,7 @@ law_statement_by k.StartTransaction = law_bind _ _ law_take (λ _. law_bind _ _ 
 law_statement_by k.Commit = law_bind _ _ law_take (λ _. law_pure s.Commit)
 law_statement_by k.Rollback = law_bind _ _ law_take (λ _. law_pure s.Rollback)
 law_statement_by k.Finish = law_bind _ _ law_take (λ _. law_pure s.Finish)
+law_statement_by k.Dollar = law_bind _ _ law_take (λ _. law_back_up)
 law_statement_by k.Define = law_bind _ _ law_take (λ _. law_bind _ _ law_peek law_define_by)
 law_statement_by k.Delete = law_bind _ _ law_take (λ _. law_bind _ _ law_peek law_delete_by)
 law_statement_by _ = law_bind _ _ (law_action_at (suc max_nesting) false) (λ x. law_pure (s.Act x))

@@ -27,7 +27,7 @@ use Rattle.rdo_ast.specs.declared.syntax.Item.TheVariants as i
 use Rattle.rdo_tokens.specs.Lex.{Text, word_kind, text_value, symbol, token, tokens, same_kind}
 use Rattle.rdo_tokens.specs.Input.{kind, spelling, next, left, sees, after, expect, upper, name, same_name, text, number_value, number, whole_number, more_from, separated}
 use Rattle.rdo_grammar.specs.Grammar.{ref_from, reference, range, crossed, ranges, first, open_level, with, inner, count, statistic, minus, parenthesized, statistic_by, prim, products_from, products, term_after, term, signed_term, sums_from, sums, expr_after, expr, expr_with, compared, between, compare_after, compare, negated, grouped, any, one_test, tests, conj, conjunctions, cond, cond_at, test_at, expr_at, assign, assigns_from, assigns, printed_ref, printed_name, printed, order, key, keys, references, sorted, reduced, sorted_only, reduced_only, shape, selection, printed_list, point, store, modify, print, body_from, body, for_action, action, action_at}
-use Rattle.rdo_parser.specs.Statements.{share_mode, writes, reservation, reservations, wait, reserving, read_write, start_transaction, integer_type, scale, text_type, signed_type, field_type, field_kind, field_definition, pointed_field, fields_from, fields, define_relation, duplicates, index_type, pointed_name, index_fields_from, index_fields, index_head, define_index, define_field, define, delete, invoke, statement, pointed}
+use Rattle.rdo_parser.specs.Statements.{share_mode, writes, reservation, reservations, wait, reserving, read_write, start_transaction, integer_type, scale, text_type, signed_type, field_type, field_kind, field_definition, pointed_field, fields_from, fields, define_relation, duplicates, index_type, pointed_name, index_fields_from, index_fields, index_head, define_index, define_field, define, delete, invoke, back_up, statement, pointed}
 use Rattle.rdo_parser.specs.Script.{begins_stop, parsed_at, syntax_at, next_statement, item_at, items_from, script_items, stops_from, ends_in_stop}
 
 abbrev act : Action → Item
@@ -70,7 +70,9 @@ texts =
     (codes "DEFINE INDEX I FOR T DUPLICATES ARE NOT ALLOWED. A. B. END I INDEX." ++ 10 ∷ codes "DEFINE INDEX I FOR T. A. B. C. D. E. F. G. H. I. END I INDEX") ∷
     -- nothing behind a stop is read, and what is no stop is a fault
     (codes "FINISH $ stop FINISH") ∷
-    (codes "$ RMU" ++ 10 ∷ codes "STOP" ++ 10 ∷ codes "COMMIT" ++ 10 ∷ codes "$" ++ 10 ∷ codes "STOP") ∷ []
+    (codes "$ RMU" ++ 10 ∷ codes "STOP" ++ 10 ∷ codes "COMMIT" ++ 10 ∷ codes "$" ++ 10 ∷ codes "STOP") ∷
+    -- a backup's number is a whole one from 1 to 9
+    (codes "$ rmu/backup/online 9. $RMU / BACKUP / ONLINE 0" ++ 10 ∷ codes "$ RMU/BACKUP/ONLINE 10" ++ 10 ∷ codes "$ RMU/BACKUP/ONLINE 1.0" ++ 10 ∷ codes "$ RMU/BACKUP 1" ++ 10 ∷ codes "$ COMMIT") ∷ []
 
 items : List (List Item)
 items =
@@ -119,16 +121,17 @@ items =
     record { name = codes "B"; kind = dtype.Own (record { kind = data_type.Text; scale = 0; size = 4 }) } ∷ [])) ∷ []) ∷
     (i.Statement (s.DefineIndex (record { name = codes "I"; relation = codes "T"; unique = true; fields = codes "A" ∷ codes "B" ∷ [] })) ∷ i.SyntaxAt 2 47 ∷ []) ∷
     (i.Statement s.Finish ∷ []) ∷
-    (i.SyntaxAt 1 1 ∷ i.SyntaxAt 2 1 ∷ i.Statement s.Commit ∷ []) ∷ []
+    (i.SyntaxAt 2 1 ∷ i.Statement s.Commit ∷ []) ∷
+    (i.Statement (s.BackUp 9) ∷ i.SyntaxAt 1 47 ∷ i.SyntaxAt 2 21 ∷ i.SyntaxAt 3 21 ∷ i.SyntaxAt 4 14 ∷ i.SyntaxAt 5 3 ∷ []) ∷ []
 
 -- which of the texts come to a stop
 stops : List Bool
-stops = false ∷ false ∷ false ∷ false ∷ false ∷ false ∷ false ∷ false ∷ false ∷ false ∷ false ∷ true ∷ true ∷ []
+stops = false ∷ false ∷ false ∷ false ∷ false ∷ false ∷ false ∷ false ∷ false ∷ false ∷ false ∷ true ∷ true ∷ false ∷ []
 
 items_of_texts : map script_items texts ≡ items
-unfolding texts items word_kind text_value symbol token tokens same_kind kind spelling next left sees after expect upper name same_name text number_value number whole_number more_from separated ref_from reference range crossed ranges first open_level with inner count statistic minus parenthesized statistic_by prim products_from products term_after term signed_term sums_from sums expr_after expr expr_with compared between compare_after compare negated grouped any one_test tests conj conjunctions cond cond_at test_at expr_at assign assigns_from assigns printed_ref printed_name printed order key keys references sorted reduced sorted_only reduced_only shape selection printed_list point store modify print body_from body for_action action action_at share_mode writes reservation reservations wait reserving read_write start_transaction integer_type scale text_type signed_type field_type field_kind field_definition pointed_field fields_from fields define_relation duplicates index_type pointed_name index_fields_from index_fields index_head define_index define_field define delete invoke statement pointed begins_stop parsed_at syntax_at next_statement item_at items_from
+unfolding texts items word_kind text_value symbol token tokens same_kind kind spelling next left sees after expect upper name same_name text number_value number whole_number more_from separated ref_from reference range crossed ranges first open_level with inner count statistic minus parenthesized statistic_by prim products_from products term_after term signed_term sums_from sums expr_after expr expr_with compared between compare_after compare negated grouped any one_test tests conj conjunctions cond cond_at test_at expr_at assign assigns_from assigns printed_ref printed_name printed order key keys references sorted reduced sorted_only reduced_only shape selection printed_list point store modify print body_from body for_action action action_at share_mode writes reservation reservations wait reserving read_write start_transaction integer_type scale text_type signed_type field_type field_kind field_definition pointed_field fields_from fields define_relation duplicates index_type pointed_name index_fields_from index_fields index_head define_index define_field define delete invoke back_up statement pointed begins_stop parsed_at syntax_at next_statement item_at items_from
 items_of_texts = refl
 
 stops_of_texts : map ends_in_stop texts ≡ stops
-unfolding texts stops word_kind text_value symbol token tokens same_kind kind spelling next left sees after expect upper name same_name text number_value number whole_number more_from separated ref_from reference range crossed ranges first open_level with inner count statistic minus parenthesized statistic_by prim products_from products term_after term signed_term sums_from sums expr_after expr expr_with compared between compare_after compare negated grouped any one_test tests conj conjunctions cond cond_at test_at expr_at assign assigns_from assigns printed_ref printed_name printed order key keys references sorted reduced sorted_only reduced_only shape selection printed_list point store modify print body_from body for_action action action_at share_mode writes reservation reservations wait reserving read_write start_transaction integer_type scale text_type signed_type field_type field_kind field_definition pointed_field fields_from fields define_relation duplicates index_type pointed_name index_fields_from index_fields index_head define_index define_field define delete invoke statement pointed begins_stop parsed_at syntax_at next_statement item_at stops_from
+unfolding texts stops word_kind text_value symbol token tokens same_kind kind spelling next left sees after expect upper name same_name text number_value number whole_number more_from separated ref_from reference range crossed ranges first open_level with inner count statistic minus parenthesized statistic_by prim products_from products term_after term signed_term sums_from sums expr_after expr expr_with compared between compare_after compare negated grouped any one_test tests conj conjunctions cond cond_at test_at expr_at assign assigns_from assigns printed_ref printed_name printed order key keys references sorted reduced sorted_only reduced_only shape selection printed_list point store modify print body_from body for_action action action_at share_mode writes reservation reservations wait reserving read_write start_transaction integer_type scale text_type signed_type field_type field_kind field_definition pointed_field fields_from fields define_relation duplicates index_type pointed_name index_fields_from index_fields index_head define_index define_field define delete invoke back_up statement pointed begins_stop parsed_at syntax_at next_statement item_at stops_from
 stops_of_texts = refl

@@ -13,7 +13,7 @@ use Rattle.rdo_tokens.specs.Lex.{Text, Token, same_kind}
 use Rattle.rdo_tokens.specs.Input.{Input, Parser, ◌>>=◌, pure, refuse, peek, take_token, eat, expect, kind, spelling, next, sees, name, same_name, text, whole_number}
 use Rattle.rdo_grammar.specs.Ahead.{LooksAhead, Reaches, SameNext}
 use Rattle.rdo_grammar.specs.Grammar.{point, action_at, max_nesting}
-use Rattle.rdo_parser.specs.Statements.{share_by, share_mode, writes_by, writes, reservation, reservations, wait_by, wait, reserving, read_write, start_by, start_transaction, integer_by, integer_type, scale, max_scale, text_type, max_text_size, signed_type, type_by, field_type, field_kind_by, field_kind, field_definition, pointed_field, fields_from, fields, define_relation, duplicates, index_type, pointed_name, index_fields_from, index_fields, index_head, define_index, define_field, define_by, define, delete_by, delete, invoke, statement_by, statement, pointed, max_fields, max_index_fields}
+use Rattle.rdo_parser.specs.Statements.{share_by, share_mode, writes_by, writes, reservation, reservations, wait_by, wait, reserving, read_write, start_by, start_transaction, integer_by, integer_type, scale, max_scale, text_type, max_text_size, signed_type, type_by, field_type, field_kind_by, field_kind, field_definition, pointed_field, fields_from, fields, define_relation, duplicates, index_type, pointed_name, index_fields_from, index_fields, index_head, define_index, define_field, define_by, define, delete_by, delete, invoke, back_up, max_backup, statement_by, statement, pointed, max_fields, max_index_fields}
 use Rattle.rdo_grammar.proofs.AheadLaws.{law_pure, law_refuse, law_bind, law_peek, law_take, law_as, law_expect, law_name, law_eat, law_if, law_text, law_whole, law_separated, spelled, law_spelled, if_at}
 use Rattle.rdo_grammar.proofs.GrammarLaws.{law_action_at, takes_action_at}
 use Rattle.rdo_grammar.proofs.TakesLaws.{TakesToken, takes_bind, takes_first, takes_peek}
@@ -138,6 +138,11 @@ law_invoke : LooksAhead invoke
 unfolding invoke
 law_invoke = law_bind _ _ (law_expect k.Database) (λ _. law_bind _ _ (law_expect k.Filename) (λ _. law_bind _ _ law_text (λ t. law_pure _)))
 
+law_back_up : LooksAhead back_up
+unfolding back_up
+law_back_up = law_bind _ _ (law_expect k.Rmu) (λ _. law_bind _ _ (law_expect k.Slash) (λ _. law_bind _ _ (law_expect k.Backup) (λ _. law_bind _ _ (law_expect k.Slash) (λ _. law_bind _ _ (law_expect k.Online)
+    (λ _. law_bind _ _ (law_whole 1 max_backup) (λ n. law_pure (s.BackUp n)))))))
+
 law_statement_by : (kind : Kind) → LooksAhead (statement_by kind)
 unfolding start_transaction define delete
 law_statement_by k.Invoke = law_bind _ _ law_take (λ _. law_invoke)
@@ -145,6 +150,7 @@ law_statement_by k.StartTransaction = law_bind _ _ law_take (λ _. law_bind _ _ 
 law_statement_by k.Commit = law_bind _ _ law_take (λ _. law_pure s.Commit)
 law_statement_by k.Rollback = law_bind _ _ law_take (λ _. law_pure s.Rollback)
 law_statement_by k.Finish = law_bind _ _ law_take (λ _. law_pure s.Finish)
+law_statement_by k.Dollar = law_bind _ _ law_take (λ _. law_back_up)
 law_statement_by k.Define = law_bind _ _ law_take (λ _. law_bind _ _ law_peek law_define_by)
 law_statement_by k.Delete = law_bind _ _ law_take (λ _. law_bind _ _ law_peek law_delete_by)
 law_statement_by _ = law_bind _ _ (law_action_at (suc max_nesting) false) (λ x. law_pure (s.Act x))
@@ -160,6 +166,7 @@ takes_statement_by k.StartTransaction = takes_first _ (λ _. law_bind _ _ law_pe
 takes_statement_by k.Commit = takes_first _ (λ _. law_pure s.Commit)
 takes_statement_by k.Rollback = takes_first _ (λ _. law_pure s.Rollback)
 takes_statement_by k.Finish = takes_first _ (λ _. law_pure s.Finish)
+takes_statement_by k.Dollar = takes_first _ (λ _. law_back_up)
 takes_statement_by k.Define = takes_first _ (λ _. law_bind _ _ law_peek law_define_by)
 takes_statement_by k.Delete = takes_first _ (λ _. law_bind _ _ law_peek law_delete_by)
 takes_statement_by _ = takes_bind _ _ (takes_action_at (suc max_nesting) false) (λ x. law_pure (s.Act x))

@@ -32,6 +32,10 @@ max_text_size = 500
 abbrev pub max_scale : ℕ
 max_scale = 9
 
+-- the greatest number of a backup
+abbrev pub max_backup : ℕ
+max_backup = 9
+
 -- ---- transactions
 
 abbrev pub share_by : Kind → Parser Share
@@ -263,13 +267,24 @@ invoke = do
   expect k.Filename
   s.Invoke <$> text
 
--- statement := INVOKE .. | START_TRANSACTION .. | COMMIT | ROLLBACK | FINISH | action | define
+-- "$" RMU "/" BACKUP "/" ONLINE number, after "$"
+unfoldable pub back_up : Parser Statement
+back_up = do
+  expect k.Rmu
+  expect k.Slash
+  expect k.Backup
+  expect k.Slash
+  expect k.Online
+  s.BackUp <$> whole_number 1 max_backup
+
+-- statement := INVOKE .. | START_TRANSACTION .. | COMMIT | ROLLBACK | FINISH | "$" RMU .. | action | define
 abbrev pub statement_by : Kind → Parser Statement
 statement_by k.Invoke = take_token >> invoke
 statement_by k.StartTransaction = take_token >> start_transaction
 statement_by k.Commit = take_token >> pure s.Commit
 statement_by k.Rollback = take_token >> pure s.Rollback
 statement_by k.Finish = take_token >> pure s.Finish
+statement_by k.Dollar = take_token >> back_up
 statement_by k.Define = take_token >> define
 statement_by k.Delete = take_token >> delete
 statement_by _ = s.Act <$> action_at (suc max_nesting) false

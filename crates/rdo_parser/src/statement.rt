@@ -6,6 +6,7 @@ ghost use Rattle.rdo_parser.specs.Statements as spec;
 
 use crate::definition::define;
 use crate::transaction::start_transaction;
+use rdo_ast::backup::BackupNumber;
 use rdo_ast::syntax::Statement;
 use rdo_grammar::action::action;
 use rdo_tokens::token::Kind;
@@ -14,6 +15,9 @@ use std::alloc::Global;
 
 /// How many levels may be open.
 const MAX_NESTING: usize = 16;
+
+/// The greatest number of a backup.
+const MAX_BACKUP: u64 = 9;
 
 /// What follows DELETE.
 #[tactic(auto, unfolding(crate::specs::Statements::delete))]
@@ -43,6 +47,20 @@ fn invoke(alloc: Global, tokens: &mut Tokens<'_>) -> Result<Statement, Stop>
     Ok(Statement::Invoke(tokens.text(alloc)?))
 }
 
+/// `RMU "/" BACKUP "/" ONLINE number`
+#[tactic(auto, unfolding(crate::specs::Statements::back_up))]
+fn back_up(tokens: &mut Tokens<'_>) -> Result<Statement, Stop>
+    ensures { Reads (spec.back_up tokens.old) result tokens.new }
+{
+    tokens.expect(Kind::Rmu)?;
+    tokens.expect(Kind::Slash)?;
+    tokens.expect(Kind::Backup)?;
+    tokens.expect(Kind::Slash)?;
+    tokens.expect(Kind::Online)?;
+    let number = tokens.whole_number(1, MAX_BACKUP)? as u8;
+    Ok(Statement::BackUp(BackupNumber::new(number)))
+}
+
 /// A statement.
 #[tactic(auto, unfolding(crate::specs::Statements::statement))]
 fn statement(alloc: Global, tokens: &mut Tokens<'_>) -> Result<Statement, Stop>
@@ -68,6 +86,10 @@ fn statement(alloc: Global, tokens: &mut Tokens<'_>) -> Result<Statement, Stop>
         Kind::Finish => {
             tokens.take();
             Ok(Statement::Finish)
+        }
+        Kind::Dollar => {
+            tokens.take();
+            back_up(tokens)
         }
         Kind::Define => {
             tokens.take();

@@ -15,7 +15,7 @@ use Rattle.rdo_ast.specs.declared.syntax.Action.{Action}
 use Rattle.rdo_ast.specs.declared.syntax.Action.TheVariants as a
 use Rattle.rdo_ast.specs.declared.syntax.Statement.{Statement}
 use Rattle.rdo_ast.specs.declared.syntax.Statement.TheVariants as s
-use Rattle.rdo_ast.specs.Tree.{Expression, number, text, field, negative, chain, count, statistic, Operations, no_operation, operation, Testing, compare, between, containing, starting_with, missing, any, negated, group, Conjunction, no_test, test, Condition, no_conjunction, conjunction, Ranging, ranging, With, without_condition, with_condition, Assignment, Shown, value, all_fields, Act, store, for_each, print, modify, erase, Acts, no_act, act, Command, invoke, start_read_only, start_read_write, commit, rollback, finish, perform, define_field, define_relation, define_index, delete_relation, delete_index}
+use Rattle.rdo_ast.specs.Tree.{Expression, number, text, field, negative, chain, count, statistic, Operations, no_operation, operation, Testing, compare, between, containing, starting_with, missing, any, negated, group, Conjunction, no_test, test, Condition, no_conjunction, conjunction, Ranging, ranging, With, without_condition, with_condition, Assignment, Shown, value, all_fields, Act, store, for_each, print, modify, erase, Acts, no_act, act, Command, invoke, start_read_only, start_read_write, commit, rollback, finish, back_up, perform, define_field, define_relation, define_index, delete_relation, delete_index}
 
 abbrev mutual
   pub built : Expression → declared.Expression
@@ -86,6 +86,7 @@ built_command (start_read_write waits reserved) = s.StartReadWrite waits reserve
 built_command commit = s.Commit
 built_command rollback = s.Rollback
 built_command finish = s.Finish
+built_command (back_up n) = s.BackUp n
 built_command (perform x) = s.Act (built_action x)
 built_command (define_field n x) = s.DefineField n x
 built_command (define_relation n fields) = s.DefineRelation n fields

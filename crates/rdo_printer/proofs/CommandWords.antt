@@ -14,11 +14,11 @@ use Rattle.rdo_ast.specs.declared.syntax.DefinedType.{DefinedType}
 use Rattle.rdo_ast.specs.declared.syntax.DefinedType.TheVariants as dtype
 use Rattle.rdo_ast.specs.declared.syntax.FieldDefinition.{FieldDefinition}
 use Rattle.rdo_ast.specs.declared.syntax.IndexDefinition.{IndexDefinition}
-use Rattle.rdo_ast.specs.Tree.{Assignment, Shown, value, all_fields, Act, store, for_each, print, modify, erase, Acts, no_act, act, Command, invoke, start_read_only, start_read_write, commit, rollback, finish, perform, define_field, define_relation, define_index, delete_relation, delete_index}
+use Rattle.rdo_ast.specs.Tree.{Assignment, Shown, value, all_fields, Act, store, for_each, print, modify, erase, Acts, no_act, act, Command, invoke, start_read_only, start_read_write, commit, rollback, finish, back_up, perform, define_field, define_relation, define_index, delete_relation, delete_index}
 use Rattle.rdo_tokens.specs.declared.token.Kind.{Kind}
 use Rattle.rdo_tokens.specs.declared.token.Kind.TheVariants as k
 use Rattle.rdo_tokens.specs.Lex.{Text}
-use Rattle.rdo_parser.specs.Statements.{max_scale, max_text_size}
+use Rattle.rdo_parser.specs.Statements.{max_scale, max_text_size, max_backup}
 use Rattle.rdo_printer.specs.Words.{Spelled, word, name_word, spelling_of}
 use Rattle.rdo_printer.specs.Trees.{reference_words, range_words, expression_words, ranging_words}
 use Rattle.rdo_printer.specs.Commands.{assign_words, assigns_words, shown_words, key_words, clause_words, action_words, body_words, reservation_words, reserving_words, integer_words, type_words, field_type_words, defined_words, field_words, index_field_words, duplicates_words, index_words, statement_words, command_words}
@@ -146,6 +146,9 @@ statement_spelled (start_read_write waits reserved) h = wait_spelled waits reser
 statement_spelled commit h = (is_word k.Commit refl, tt)
 statement_spelled rollback h = (is_word k.Rollback refl, tt)
 statement_spelled finish h = (is_word k.Finish refl, tt)
+statement_spelled (back_up n) h =
+    let top : n ≤ max_backup = h.1 in
+    (is_word k.Dollar refl, (is_word k.Rmu refl, (is_word k.Slash refl, (is_word k.Backup refl, (is_word k.Slash refl, (is_word k.Online refl, (number_is_word n 0 (omega arith), tt)))))))
 statement_spelled (perform x) h = action_spelled x _ false h
 statement_spelled (define_field n t) h = (is_word k.Define refl, (is_word k.Field refl, (name_is_word n h.0, field_type_spelled t h.1)))
 statement_spelled (define_relation n xs) h =

@@ -9,7 +9,7 @@ use Rattle.rdo_ast.specs.declared.syntax.Arithmetic.TheVariants as by
 use Rattle.rdo_ast.specs.declared.syntax.Clause.TheVariants as clause
 use Rattle.rdo_ast.specs.declared.syntax.Share.TheVariants as share
 use Rattle.rdo_ast.specs.declared.syntax.DefinedType.TheVariants as dtype
-use Rattle.rdo_ast.specs.Tree.{number, text, field, negative, chain, no_operation, operation, count, compare, missing, group, negated, test, no_test, conjunction, no_conjunction, ranging, with_condition, value, all_fields, for_each, print, erase, no_act, act, start_read_write, perform, define_relation, define_index, said, Command}
+use Rattle.rdo_ast.specs.Tree.{number, text, field, negative, chain, no_operation, operation, count, compare, missing, group, negated, test, no_test, conjunction, no_conjunction, ranging, with_condition, value, all_fields, for_each, print, erase, no_act, act, start_read_write, back_up, perform, define_relation, define_index, said, Command}
 use Rattle.rdo_tokens.specs.Lex.{Text, same_kind, word_kind}
 use Rattle.rdo_printer.specs.Words.{spelling_of, number_text, quoted_text}
 use Rattle.rdo_tokens.specs.Input.{upper}
@@ -77,6 +77,10 @@ read_loop = script_is_read (loop ∷ []) (printable_loop, tt)
 printed_transaction : command_text (start_read_write false (record { relation = codes "T"; share = share.Protected; writes = true } ∷ [])) ≡ codes "START_TRANSACTION READ_WRITE NOWAIT RESERVING T FOR PROTECTED WRITE . \n"
 unfolding spelling_of same_kind
 printed_transaction = refl
+
+printed_backup : command_text (back_up 9) ≡ codes "$ RMU / BACKUP / ONLINE 9 . \n"
+unfolding spelling_of same_kind number_text
+printed_backup = rw (decimal_digit 9 (omega arith)) refl
 
 printed_relation : command_text (define_relation (codes "T") (record { name = codes "A"; kind = dtype.Own (record { kind = data_type.Word; scale = 2; size = 0 }) } ∷ record { name = codes "B"; kind = dtype.BasedOn (codes "C") } ∷ []))
     ≡ codes "DEFINE RELATION T . A DATATYPE IS SIGNED WORD SCALE IS - 2 . B BASED ON C . END T RELATION . \n"

@@ -14,14 +14,14 @@ use Rattle.rdo_ast.specs.declared.syntax.DefinedType.{DefinedType}
 use Rattle.rdo_ast.specs.declared.syntax.DefinedType.TheVariants as dtype
 use Rattle.rdo_ast.specs.declared.syntax.FieldDefinition.{FieldDefinition}
 use Rattle.rdo_ast.specs.declared.syntax.IndexDefinition.{IndexDefinition}
-use Rattle.rdo_ast.specs.Tree.{Act, store, for_each, print, modify, erase, Command, invoke, start_read_only, start_read_write, commit, rollback, finish, perform, define_field, define_relation, define_index, delete_relation, delete_index}
+use Rattle.rdo_ast.specs.Tree.{Act, store, for_each, print, modify, erase, Command, invoke, start_read_only, start_read_write, commit, rollback, finish, back_up, perform, define_field, define_relation, define_index, delete_relation, delete_index}
 use Rattle.rdo_tokens.specs.declared.token.Kind.{Kind}
 use Rattle.rdo_tokens.specs.declared.token.Kind.TheVariants as k
 use Rattle.rdo_tokens.specs.Lex.{Text, same_kind, max_number}
 use Rattle.rdo_tokens.specs.Input.{Input, kind, spelling, next, sees, after, expect, name, same_name, whole_number}
 use Rattle.rdo_grammar.specs.Grammar.{max_nesting}
 use Rattle.rdo_parser.specs.Statements as st
-use Rattle.rdo_parser.specs.Statements.{max_text_size, max_scale, share_mode, writes, reservation, reservations, wait, reserving, read_write, start_transaction, integer_type, scale, text_type, signed_type, field_type, field_kind, field_definition, pointed_field, fields_from, fields, duplicates, index_type, pointed_name, index_fields_from, index_fields, index_head, define, delete, statement, pointed}
+use Rattle.rdo_parser.specs.Statements.{max_text_size, max_scale, max_backup, share_mode, writes, reservation, reservations, wait, reserving, read_write, start_transaction, integer_type, scale, text_type, signed_type, field_type, field_kind, field_definition, pointed_field, fields_from, fields, duplicates, index_type, pointed_name, index_fields_from, index_fields, index_head, define, delete, statement, pointed}
 use Rattle.rdo_printer.specs.Words.{Spelled, word, name_word, number_word, quoted_word, text_of}
 use Rattle.rdo_printer.proofs.Labels.{labelled}
 use Rattle.rdo_printer.specs.Commands.{action_words, reservation_words, reserving_words, type_words, field_type_words, defined_words, field_words, index_field_words, duplicates_words, statement_words, command_words}
@@ -185,6 +185,11 @@ perform_read (print items) fits behind other a = rw (action_law (print items) ma
 perform_read (modify n assigns) fits behind other a = false-true fits.0
 perform_read (erase n) fits behind other a = false-true fits.0
 
+back_up_read : (n : ℕ) → 1 ≤ n → n ≤ max_backup → Reads statement (statement_words (back_up n)) (built_command (back_up n)) IsDot
+unfolding statement st.back_up expect sees kind next same_kind
+back_up_read n low high behind other a =
+    let limit : max_backup ≤ max_number = omega arith in rw (whole_read 1 max_backup n low high limit (length (text_of (number_word n 0 ∷ [])) + behind) other) refl
+
 statement_read : (c : Command) → IsPrintable c → Reads statement (statement_words c) (built_command c) IsDot
 unfolding statement start_transaction st.invoke delete define st.define_field expect sees kind next same_kind
 statement_read (invoke file) h behind other a = rw (text_read file h (length (text_of (quoted_word file ∷ [])) + behind) other) refl
@@ -193,6 +198,7 @@ statement_read (start_read_write waits reserved) h behind other a = start_read w
 statement_read commit h behind other a = refl
 statement_read rollback h behind other a = refl
 statement_read finish h behind other a = refl
+statement_read (back_up n) h behind other a = back_up_read n h.0 h.1 behind other a
 statement_read (perform x) h behind other a = perform_read x h behind other a
 statement_read (define_field n t) h behind other a =
     rw (name_read n h.0 (length (text_of (name_word n ∷ field_type_words t)) + behind) (labelled (field_type_words t) behind other)) (rw (field_type_read t h.1 behind other tt) refl)

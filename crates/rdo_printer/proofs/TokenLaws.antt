@@ -92,8 +92,6 @@ has_spelling k.Bad = false
 has_spelling k.Name = false
 has_spelling k.Number = false
 has_spelling k.Quoted = false
-has_spelling k.Dollar = false
-has_spelling k.Slash = false
 has_spelling kind = true
 
 -- a symbol or a reserved word
@@ -104,8 +102,6 @@ is_word k.Bad h = false-true h
 is_word k.Name h = false-true h
 is_word k.Number h = false-true h
 is_word k.Quoted h = false-true h
-is_word k.Dollar h = false-true h
-is_word k.Slash h = false-true h
 is_word k.Dot h = (refl, refl, λ y. refl)
 is_word k.Comma h = (refl, refl, λ y. refl)
 is_word k.Semicolon h = (refl, refl, λ y. refl)
@@ -120,6 +116,8 @@ is_word k.Minus h = (refl, refl, λ y. refl)
 is_word k.Star h = (refl, refl, λ y. refl)
 is_word k.Open h = (refl, refl, λ y. refl)
 is_word k.Close h = (refl, refl, λ y. refl)
+is_word k.Dollar h = (refl, refl, λ y. refl)
+is_word k.Slash h = (refl, refl, λ y. refl)
 is_word kind h = (refl, refl, λ y. refl)
 
 -- ---- numbers

@@ -8,7 +8,7 @@ use Rattle.rdo_ast.specs.declared.syntax.Comparison.{Comparison}
 use Rattle.rdo_ast.specs.declared.syntax.Arithmetic.{Arithmetic}
 use Rattle.rdo_ast.specs.declared.syntax.Statistic.{Statistic}
 use Rattle.rdo_ast.specs.declared.syntax.Clause.{Clause}
-use Rattle.rdo_ast.specs.Tree.{Expression, number, text, field, negative, chain, count, statistic, Operations, no_operation, operation, Testing, compare, between, containing, starting_with, missing, any, negated, group, Conjunction, no_test, test, Condition, no_conjunction, conjunction, Ranging, ranging, With, without_condition, with_condition, Assignment, Shown, value, all_fields, Act, store, for_each, print, modify, erase, Acts, no_act, act, Command, invoke, start_read_only, start_read_write, commit, rollback, finish, perform, define_field, define_relation, define_index, delete_relation, delete_index}
+use Rattle.rdo_ast.specs.Tree.{Expression, number, text, field, negative, chain, count, statistic, Operations, no_operation, operation, Testing, compare, between, containing, starting_with, missing, any, negated, group, Conjunction, no_test, test, Condition, no_conjunction, conjunction, Ranging, ranging, With, without_condition, with_condition, Assignment, Shown, value, all_fields, Act, store, for_each, print, modify, erase, Acts, no_act, act, Command, invoke, start_read_only, start_read_write, commit, rollback, finish, back_up, perform, define_field, define_relation, define_index, delete_relation, delete_index}
 use Rattle.rdo_ast.specs.Views.{expression_of, operations_of, applied_of, testing_of, conjunction_of, condition_of, conjunction_with, condition_with, ranging_of, assignment_of, shown_of, act_of, acts_of, command_of}
 use Rattle.rdo_printer.proofs.Built.{built, built_operations, built_test, built_tests, built_condition, built_conjunctions, built_inner, built_assign, built_shown, built_action, built_actions, built_command}
 
@@ -178,6 +178,7 @@ viewed_command (start_read_write waits reserved) = refl
 viewed_command commit = refl
 viewed_command rollback = refl
 viewed_command finish = refl
+viewed_command (back_up n) = refl
 viewed_command (perform x) = ap perform (viewed_action x)
 viewed_command (define_field n t) = refl
 viewed_command (define_relation n fields) = refl

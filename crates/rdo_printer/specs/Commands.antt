@@ -14,7 +14,7 @@ use Rattle.rdo_ast.specs.declared.syntax.DefinedType.{DefinedType}
 use Rattle.rdo_ast.specs.declared.syntax.DefinedType.TheVariants as dtype
 use Rattle.rdo_ast.specs.declared.syntax.FieldDefinition.{FieldDefinition}
 use Rattle.rdo_ast.specs.declared.syntax.IndexDefinition.{IndexDefinition}
-use Rattle.rdo_ast.specs.Tree.{Assignment, Shown, value, all_fields, Act, store, for_each, print, modify, erase, Acts, no_act, act, Command, invoke, start_read_only, start_read_write, commit, rollback, finish, perform, define_field, define_relation, define_index, delete_relation, delete_index}
+use Rattle.rdo_ast.specs.Tree.{Assignment, Shown, value, all_fields, Act, store, for_each, print, modify, erase, Acts, no_act, act, Command, invoke, start_read_only, start_read_write, commit, rollback, finish, back_up, perform, define_field, define_relation, define_index, delete_relation, delete_index}
 use Rattle.rdo_tokens.specs.declared.token.Kind.{Kind}
 use Rattle.rdo_tokens.specs.declared.token.Kind.TheVariants as k
 use Rattle.rdo_tokens.specs.Lex.{Text}
@@ -106,6 +106,7 @@ statement_words (start_read_write waits reserved) = word k.StartTransaction ∷ 
 statement_words commit = word k.Commit ∷ []
 statement_words rollback = word k.Rollback ∷ []
 statement_words finish = word k.Finish ∷ []
+statement_words (back_up n) = word k.Dollar ∷ word k.Rmu ∷ word k.Slash ∷ word k.Backup ∷ word k.Slash ∷ word k.Online ∷ number_word n 0 ∷ []
 statement_words (perform a) = action_words a
 statement_words (define_field n t) = word k.Define ∷ word k.Field ∷ name_word n ∷ field_type_words t
 statement_words (define_relation n fields) =

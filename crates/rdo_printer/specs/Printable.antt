@@ -17,12 +17,12 @@ use Rattle.rdo_ast.specs.declared.syntax.DefinedType.{DefinedType}
 use Rattle.rdo_ast.specs.declared.syntax.DefinedType.TheVariants as dtype
 use Rattle.rdo_ast.specs.declared.syntax.FieldDefinition.{FieldDefinition}
 use Rattle.rdo_ast.specs.declared.syntax.IndexDefinition.{IndexDefinition}
-use Rattle.rdo_ast.specs.Tree.{Expression, number, text, field, negative, chain, count, statistic, Operations, no_operation, operation, Testing, compare, between, containing, starting_with, missing, any, negated, group, Conjunction, no_test, test, Condition, no_conjunction, conjunction, Ranging, ranging, With, without_condition, with_condition, Assignment, Shown, value, all_fields, Act, store, for_each, print, modify, erase, Acts, no_act, act, Command, invoke, start_read_only, start_read_write, commit, rollback, finish, perform, define_field, define_relation, define_index, delete_relation, delete_index}
+use Rattle.rdo_ast.specs.Tree.{Expression, number, text, field, negative, chain, count, statistic, Operations, no_operation, operation, Testing, compare, between, containing, starting_with, missing, any, negated, group, Conjunction, no_test, test, Condition, no_conjunction, conjunction, Ranging, ranging, With, without_condition, with_condition, Assignment, Shown, value, all_fields, Act, store, for_each, print, modify, erase, Acts, no_act, act, Command, invoke, start_read_only, start_read_write, commit, rollback, finish, back_up, perform, define_field, define_relation, define_index, delete_relation, delete_index}
 use Rattle.rdo_tokens.specs.declared.token.Kind.TheVariants as k
 use Rattle.rdo_tokens.specs.Lex.{Text, is_printable, trimmed, word_kind, same_kind, max_name, max_number, max_number_scale}
 use Rattle.rdo_tokens.specs.Input.{upper}
 use Rattle.rdo_grammar.specs.Grammar.{Plain, max_nesting}
-use Rattle.rdo_parser.specs.Statements.{max_fields, max_index_fields, max_text_size, max_scale}
+use Rattle.rdo_parser.specs.Statements.{max_fields, max_index_fields, max_text_size, max_scale, max_backup}
 use Rattle.rdo_printer.specs.Words.{Spelled}
 use Rattle.rdo_printer.specs.Trees.{has_condition, is_open, is_times, is_guarded, is_first_guarded, expression_words}
 use Rattle.rdo_ast.specs.declared.syntax.Arithmetic.TheVariants as by
@@ -227,6 +227,7 @@ IsPrintable (start_read_write waits reserved) = AllByRecursion IsReservation res
 IsPrintable commit = Unit {0}
 IsPrintable rollback = Unit {0}
 IsPrintable finish = Unit {0}
+IsPrintable (back_up n) = (1 ≤ n) × (n ≤ max_backup)
 IsPrintable (perform a) = FitsAction a max_nesting false
 IsPrintable (define_field n t) = IsName n × IsFieldType t
 IsPrintable (define_relation n fields) = IsName n × AreItems IsFieldDefinition fields × (length fields ≤ max_fields)

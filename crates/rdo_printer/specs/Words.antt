@@ -31,6 +31,8 @@ spelling_of k.Minus = codes "-"
 spelling_of k.Star = codes "*"
 spelling_of k.Open = codes "("
 spelling_of k.Close = codes ")"
+spelling_of k.Dollar = codes "$"
+spelling_of k.Slash = codes "/"
 spelling_of kind = reserved (map (λ w. (w.0.now, w.1)) RESERVED) kind
 
 abbrev pub word : Kind → Spelled

@@ -10,7 +10,7 @@ use Rattle.rdo_ast.specs.declared.syntax.DefinedType.{DefinedType}
 use Rattle.rdo_ast.specs.declared.syntax.DefinedType.TheVariants.{Own, BasedOn}
 use Rattle.rdo_ast.specs.declared.syntax.FieldDefinition.{FieldDefinition}
 use Rattle.rdo_ast.specs.declared.syntax.IndexDefinition.{IndexDefinition}
-use Rattle.rdo_ast.specs.Tree.{Name, Command, invoke, start_read_only, start_read_write, commit, rollback, finish, perform, define_field, define_relation, define_index, delete_relation, delete_index, said}
+use Rattle.rdo_ast.specs.Tree.{Name, Command, invoke, start_read_only, start_read_write, commit, rollback, finish, back_up, perform, define_field, define_relation, define_index, delete_relation, delete_index, said}
 use Rattle.rdb_meaning.specs.declared.tables.Relation.{Relation}
 use Rattle.rdb_meaning.specs.declared.tables.Tables.{Tables}
 use Rattle.rdb_meaning.specs.Contents.{relation_named}
@@ -73,6 +73,7 @@ module _ (u t : Tables) (one : OneSchema u t) (globals : t.globals ≡ u.globals
   before-same word standing commit takes = absurd (false≢true takes)
   before-same word standing rollback takes = absurd (false≢true takes)
   before-same word standing finish takes = absurd (false≢true takes)
+  before-same word standing (back_up n) takes = absurd (false≢true takes)
   before-same word standing (delete_relation n) takes = absurd (false≢true takes)
   before-same word standing (delete_index n) takes = absurd (false≢true takes)
 
@@ -87,6 +88,7 @@ changes (start_read_write wait rs) takes = absurd (false≢true takes)
 changes commit takes = absurd (false≢true takes)
 changes rollback takes = absurd (false≢true takes)
 changes finish takes = absurd (false≢true takes)
+changes (back_up n) takes = absurd (false≢true takes)
 changes (delete_relation n) takes = absurd (false≢true takes)
 changes (delete_index n) takes = absurd (false≢true takes)
 

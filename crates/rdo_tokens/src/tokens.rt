@@ -202,6 +202,7 @@ impl<'a> Tokens<'a> {
     #[tactic(auto, unfolding(crate::specs::Input::whole_number))]
     pub fn whole_number(&mut self, least: u64, most: u64) -> Result<u64, Stop>
         ensures reads { Reads (spec.whole_number least most self.old) result self.new }
+        ensures least { IfOk result (λ n. least ≤ n) }
         ensures within { IfOk result (λ n. n ≤ most) }
     {
         if !self.sees(Kind::Number) {

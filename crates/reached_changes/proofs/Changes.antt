@@ -9,7 +9,7 @@ use Rattle.rdo_ast.specs.declared.reply.Reply.{Reply}
 use Rattle.rdo_ast.specs.declared.reply.Reply.TheVariants as r
 use Rattle.rdo_ast.specs.declared.reply.Standing.{Standing}
 use Rattle.rdo_ast.specs.declared.syntax.IndexDefinition.{IndexDefinition}
-use Rattle.rdo_ast.specs.Tree.{Name, Act, Command, invoke, start_read_only, start_read_write, commit, rollback, finish, perform, define_field, define_relation, define_index, delete_relation, delete_index, said}
+use Rattle.rdo_ast.specs.Tree.{Name, Act, Command, invoke, start_read_only, start_read_write, commit, rollback, finish, back_up, perform, define_field, define_relation, define_index, delete_relation, delete_index, said}
 use Rattle.rdb_meaning.specs.declared.tables.Tables.{Tables}
 use Rattle.rdb_meaning.specs.Contents.{relation_named, fields_of, rows_of}
 use Rattle.rdb_meaning.specs.Defining.{index_names, longest_key, positions_of, keys_repeat, index_refusal}
@@ -83,3 +83,4 @@ reached word standing t (start_read_write wait rs) limit none changes = absurd (
 reached word standing t commit limit none changes = absurd (false≢true changes)
 reached word standing t rollback limit none changes = absurd (false≢true changes)
 reached word standing t finish limit none changes = absurd (false≢true changes)
+reached word standing t (back_up n) limit none changes = absurd (false≢true changes)

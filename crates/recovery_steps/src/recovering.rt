@@ -4,6 +4,8 @@ ghost use Rattle.line_store.specs.Seats.{IsMember};
 ghost use Rattle.line_store.specs.Sights.{Does, Steps, stepped_to, MayAnswer, IsLess};
 ghost use Rattle.line_store.specs.declared.answers.Stepped.TheVariants as stepped;
 ghost use Rattle.store_endings.specs.disk_store.declared.member.MemberStage.TheVariants as stage;
+ghost use Rattle.store_endings.specs.disk_store.Grown.{Grow};
+ghost use Rattle.store_endings.specs.disk_store.OwnFiles.{WritesOwn};
 ghost use Rattle.store_endings.specs.disk_store.Seats.{stand_at, IsAtStage};
 ghost use Rattle.store_endings.specs.disk_store.Shown.{sight_of};
 
@@ -27,6 +29,12 @@ pub fn recover<D: Disk>(
     ensures comes { Does s.number (stepped_to (stand_at held.old.members s.number) result)
         (Steps s.number result) (sight_of (D.view disk.old) held.old) (sight_of (D.view disk.new) held.new) }
     ensures less { result ≡ Ok stepped.More → IsLess s.number (sight_of (D.view disk.old) held.old) (sight_of (D.view disk.new) held.new) }
+
+    // One slot at most is written, of the database's own files.
+    ensures writes { WritesOwn (D.view disk.old) (D.view disk.new) }
+
+    // Pages of areas stay theirs, of their classes.
+    ensures grows { Grow held.old.tables held.new.tables }
 {
     match recovery {
         Recovery::Ending => bury(disk, held, s),

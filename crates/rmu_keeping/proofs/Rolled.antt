@@ -25,7 +25,7 @@ not_rolled status gave has = omega (arith, gave, has)
 
 -- one that was carried out ends so
 abbrev pub Wrote : ℕ → Type 0
-Wrote status = (status ≡ 0) ⊎ (status ≡ 5) ⊎ (status ≡ 6)
+Wrote status = (status ≡ 0) ⊎ (status ≡ 6)
 
 pub not_three : (status : ℕ) → Wrote status → status ≡ 3 → ⊥
 not_three status wrote is = omega (arith, wrote, is)
@@ -33,8 +33,8 @@ not_three status wrote is = omega (arith, wrote, is)
 pub not_four : (status : ℕ) → Wrote status → status ≡ 4 → ⊥
 not_four status wrote is = omega (arith, wrote, is)
 
-pub no_memory : (status : ℕ) → Wrote status → GaveUp status → status ≡ 5
-no_memory status wrote gave = omega (arith, wrote, gave)
+pub not_gave_up : (status : ℕ) → Wrote status → GaveUp status → ⊥
+not_gave_up status wrote gave = omega (arith, wrote, gave)
 
 -- ---- one answer
 

@@ -8,10 +8,9 @@ ghost use Rattle.script_streams.specs.Fronts.{WritesFront};
 ghost use Rattle.rmu_recover.specs.Recovering.{IsOther};
 ghost use Rattle.rmu_keeping.specs.Rolling.{is_recover_status, rolling_status, HasRolled, MayBeRecovered, LacksGroup, HasUnfit, IsUsed, Rolls, RollsWithin, groups_text, TellsGroups};
 
+use itoa::write_digits;
 use rdb_outside::{Disk, Sink};
-use rdb_types::Bytes;
 use rmu_recover::{RecoverFault, recover};
-use rmu_texts::count_line;
 use script_streams::write_all;
 use std::alloc::Global;
 
@@ -28,25 +27,23 @@ fn status_of_rolling(fault: RecoverFault) -> u8
     }
 }
 
-// Writes how many groups were laid.
-fn write_count<K: Sink>(alloc: Global, count: u64, out: &mut K) -> u8
-    ensures status { (result ≡ 0) ⊎ (result ≡ 5) ⊎ (result ≡ 6) }
+// Writes how many groups were laid. The line stands in an array, so that no memory is wanted for it.
+fn write_count<K: Sink>(count: u64, out: &mut K) -> u8
+    ensures status { (result ≡ 0) ⊎ (result ≡ 6) }
     ensures whole { K.tells out.old ≡ true → result ≡ 0 → K.taken out.new ≡ K.taken out.old ++ groups_text count }
     ensures front { K.tells out.old ≡ true → result ≡ 6 → WritesFront (K.taken out.old) (K.taken out.new) (groups_text count) }
-    ensures nothing { result ≡ 5 → out.new ≡ out.old }
     ensures sink { result ≡ 6 → Rose (K.faults out.old) (K.faults out.new) }
 {
-    let mut text = Bytes::new(alloc);
-    if count_line(count, b"groups", &mut text).is_err() {
-        return 5;
-    }
-    match write_all(out, text.as_slice()) {
+    // (the longest count has 20 digits)
+    let mut line = *b"                     groups\n";
+    let start = write_digits(count, &mut line, 20);
+    match write_all(out, &line[start..]) {
         Ok(()) => 0,
         Err(_) => 6,
     }
 }
 
-/// `RMU/RECOVER`: rolls a database that was restored, or rolled forward in part, forward over the copies of its after-image journal of these numbers and that journal, and writes how many groups were laid. A database in use is left as it is, with no group laid. Where memory is wanted for the text, the database is rolled forward already, and in use.
+/// `RMU/RECOVER`: rolls a database that was restored, or rolled forward in part, forward over the copies of its after-image journal of these numbers and that journal, and writes how many groups were laid. A database in use is left as it is, with no group laid.
 pub fn recover_command<D: Disk, K: Sink>(
     alloc: Global,
     disk: &mut D,
@@ -95,7 +92,7 @@ pub fn recover_command<D: Disk, K: Sink>(
         → KeepsFile file (D.view disk.old) (D.view disk.new) }
 {
     match recover(alloc, disk, copies) {
-        Ok(count) => write_count(alloc, count, out),
+        Ok(count) => write_count(count, out),
         Err(fault) => status_of_rolling(fault),
     }
 }

@@ -5,7 +5,7 @@ use Rattle.std.proofs.lemmas.Bool.{false≢true, and_parts}
 use Rattle.rdb_types.specs.declared.keys.Dbkey.{Dbkey}
 use Rattle.rdo_ast.specs.declared.syntax.Reservation.{Reservation}
 use Rattle.rdo_ast.specs.declared.syntax.Range.{Range}
-use Rattle.rdo_ast.specs.Tree.{Expression, number, text, field, negative, chain, count, statistic, Operations, no_operation, operation, Testing, compare, between, containing, starting_with, missing, any, negated, group, Conjunction, no_test, test, Condition, no_conjunction, conjunction, With, without_condition, with_condition, Ranging, ranging, Shown, value, all_fields, Act, store, for_each, print, modify, erase, Acts, no_act, act, Uttered, said, syntax_fault, invoke, start_read_only, start_read_write, commit, rollback, finish, perform, define_field, define_relation, define_index, delete_relation, delete_index}
+use Rattle.rdo_ast.specs.Tree.{Expression, number, text, field, negative, chain, count, statistic, Operations, no_operation, operation, Testing, compare, between, containing, starting_with, missing, any, negated, group, Conjunction, no_test, test, Condition, no_conjunction, conjunction, With, without_condition, with_condition, Ranging, ranging, Shown, value, all_fields, Act, store, for_each, print, modify, erase, Acts, no_act, act, Uttered, said, syntax_fault, invoke, start_read_only, start_read_write, commit, rollback, finish, back_up, perform, define_field, define_relation, define_index, delete_relation, delete_index}
 use Rattle.rdb_meaning.specs.declared.tables.Relation.{Relation}
 use Rattle.rdb_meaning.specs.declared.tables.Tables.{Tables}
 use Rattle.rdb_meaning.specs.Contents.{relation_named, indexes_on}
@@ -148,6 +148,7 @@ asks-change t key (said (start_read_write wait rs)) h = absurd (false≢true (sy
 asks-change t key (said commit) h = absurd (false≢true h)
 asks-change t key (said rollback) h = absurd (false≢true h)
 asks-change t key (said finish) h = absurd (false≢true h)
+asks-change t key (said (back_up n)) h = absurd (false≢true h)
 asks-change t key (said (perform a)) h = by (is_retrieval a) refl
   where
     by : (b : Bool) → is_retrieval a ≡ b → not (is_retrieval a) ≡ true

@@ -3,7 +3,7 @@ use Rattle.std.proofs.Common.{◌≡◌, ℕ, [], false, List, refl, sym, subst,
 use Rattle.std.proofs.lemmas.Bool.{false≢true}
 use Rattle.rdb_types.specs.declared.keys.Dbkey.{Dbkey}
 use Rattle.rdo_ast.specs.declared.reply.Standing.{Standing}
-use Rattle.rdo_ast.specs.Tree.{Uttered, said, syntax_fault, invoke, start_read_only, start_read_write, commit, rollback, finish, perform, define_field, define_relation, define_index, delete_relation, delete_index}
+use Rattle.rdo_ast.specs.Tree.{Uttered, said, syntax_fault, invoke, start_read_only, start_read_write, commit, rollback, finish, back_up, perform, define_field, define_relation, define_index, delete_relation, delete_index}
 use Rattle.rdb_meaning.specs.declared.tables.Tables.{Tables}
 use Rattle.rdb_meaning.specs.Checks.{Refusal}
 use Rattle.rdb_meaning.specs.Execution.{Ran, ran, refused, astray, done, world}
@@ -35,6 +35,7 @@ undone-leaves word standing (said start_read_only) ks t = does-leave (command_re
 undone-leaves word standing (said (start_read_write wait rs)) ks t = does-leave (command_refusal word (start_read_write wait rs) standing t) t (after (start_read_write wait rs) t) standing (standing_after (start_read_write wait rs) standing) ks
 undone-leaves word standing (said commit) ks t = does-leave (command_refusal word commit standing t) t (after commit t) standing (standing_after commit standing) ks
 undone-leaves word standing (said rollback) ks t = does-leave (command_refusal word rollback standing t) t (after rollback t) standing (standing_after rollback standing) ks
+undone-leaves word standing (said (back_up n)) ks t = does-leave (command_refusal word (back_up n) standing t) t (after (back_up n) t) standing (standing_after (back_up n) standing) ks
 undone-leaves word standing (said finish) ks t = does-leave (command_refusal word finish standing t) t (after finish t) standing (standing_after finish standing) ks
 undone-leaves word standing (said (perform a)) ks t =
     unless-leaves (act_refusal a standing t) t (standing_for a standing) ks (after_running (done a t [] (world t ks [])) t (standing_for a standing) ks) (run-leaves (done a t [] (world t ks [])) t (standing_for a standing) ks)

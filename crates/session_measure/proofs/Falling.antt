@@ -12,7 +12,7 @@ use Rattle.line_view.specs.Held.{Held}
 use Rattle.rdb_drive.specs.Boards.{Less}
 use Rattle.session_states.specs.declared.stage.Work.TheVariants.{Opening as OpeningIt, Due, Out, Lacking, Housing, Fetching, Lodging}
 use Rattle.session_states.specs.declared.stage.Gather.TheVariants as gather
-use Rattle.session_states.specs.declared.stage.Laying.TheVariants.{Claiming, Changing}
+use Rattle.session_states.specs.declared.stage.Laying.TheVariants.{Claiming, Changing, Broken}
 use Rattle.session_states.specs.declared.stage.End.TheVariants.{Preparing, Journal, Ready, Committing, RollingBack, Leaving}
 use Rattle.session_states.specs.declared.stage.Stage.{Stage}
 use Rattle.session_states.specs.declared.stage.Stage.TheVariants.{Between, Working, Gathering, Reserving, Saying, Ending}
@@ -100,6 +100,7 @@ got-falls k s c d left total standing known spoken waits (Saying item r (Claimin
     let w = write-there (slice_get r.writes place) n wants in
     inr (refl, inr (refl, inr (refl, inr (refl, inr (refl, inl (next-place r.writes place w.0 w.1, refl))))))
 got-falls k s c d left total standing known spoken waits (Saying item r Changing) n wants = absurd (none-some n wants)
+got-falls k s c d left total standing known spoken waits (Saying item r Broken) n wants = absurd (none-some n wants)
 got-falls k s c d left total standing known spoken waits (Ending Preparing) n wants = absurd (none-some n wants)
 got-falls k s c d left total standing known spoken waits (Ending Journal) n wants = inr (refl, inr (refl, inl (omega arith, refl)))
 got-falls k s c d left total standing known spoken waits (Ending Ready) n wants = absurd (none-some n wants)

@@ -3,3 +3,4 @@ pub mod Nearer
 pub mod Wanted
 pub mod Queued
 pub mod AllNearer
+pub mod Whole

@@ -3,7 +3,9 @@ use Rattle.std.specs.Prelude.{◌≡◌, ◌<◌, ◌⊎◌, ◌&&◌, ℕ, Bool
 use Rattle.lock_tree_laws.specs.Progress.{Falls as LocksFall, NeverRises}
 use Rattle.session_states.specs.declared.stage.Work.TheVariants.{Due, Out}
 use Rattle.session_states.specs.declared.stage.Stage.{Stage}
-use Rattle.session_states.specs.declared.stage.Stage.TheVariants.{Between, Working}
+use Rattle.session_states.specs.declared.stage.Laying.{Laying}
+use Rattle.session_states.specs.declared.stage.Laying.TheVariants.{Broken}
+use Rattle.session_states.specs.declared.stage.Stage.TheVariants.{Between, Working, Saying}
 use Rattle.session_states.specs.declared.stage.ReaderWork.TheVariants as work
 use Rattle.session_states.specs.declared.stage.ReaderStage.{ReaderStage}
 use Rattle.session_states.specs.declared.stage.ReaderStage.TheVariants as look
@@ -83,3 +85,18 @@ pub record ComesNearer (c d : Beside) (s : ℕ) (m n : Member) : Type 0 where
 -- It comes no farther away.
 pub record StaysNear (c d : Beside) (s : ℕ) (m n : Member) : Type 0 where
   pub keeps : (k l : ℕ) → AreRounds m.phase n.phase k l → Keeps k l c d s m n
+
+-- ---- broken
+
+abbrev pub is_laid_broken : Laying → Bool
+is_laid_broken Broken = true
+is_laid_broken laying = false
+
+abbrev pub is_stage_broken : Stage → Bool
+is_stage_broken (Saying item r laying) = is_laid_broken laying
+is_stage_broken stage = false
+
+-- the store failed at a change of it, and it can only die
+abbrev pub is_broken : Phase → Bool
+is_broken (Writing w) = is_stage_broken w.stage
+is_broken x = false

@@ -9,7 +9,7 @@ use Rattle.session_states.specs.declared.stage.Work.TheVariants.{Opening, Due, O
 use Rattle.session_states.specs.declared.stage.Gather.{Gather}
 use Rattle.session_states.specs.declared.stage.Gather.TheVariants as gather
 use Rattle.session_states.specs.declared.stage.Laying.{Laying}
-use Rattle.session_states.specs.declared.stage.Laying.TheVariants.{Claiming, Changing}
+use Rattle.session_states.specs.declared.stage.Laying.TheVariants.{Claiming, Changing, Broken}
 use Rattle.session_states.specs.declared.stage.End.{End}
 use Rattle.session_states.specs.declared.stage.End.TheVariants.{Preparing, Journal, Ready}
 use Rattle.session_states.specs.declared.stage.Stage.{Stage}
@@ -55,6 +55,8 @@ work_rank work = 10
 abbrev pub laying_rank : Laying → ℕ
 laying_rank (Claiming place) = 8
 laying_rank Changing = 7
+-- (behind that there is a death alone, which is nearer by its life)
+laying_rank Broken = 15
 
 abbrev pub end_rank : End → ℕ
 end_rank Preparing = 6
@@ -101,6 +103,7 @@ stage_left stage = 0
 abbrev pub reader_work_left : ReaderWork → ℕ
 reader_work_left work.Out = 8
 reader_work_left work.Due = 0
+reader_work_left work.Copying = 0
 
 abbrev pub reader_left : ReaderStage → ℕ
 reader_left look.Between = 0

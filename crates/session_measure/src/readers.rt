@@ -5,7 +5,7 @@ ghost use Rattle.rdo_ast.specs.declared.reply.Standing.TheVariants.{Closed};
 ghost use Rattle.rdo_ast.specs.declared.syntax.Item.{Item};
 ghost use Rattle.line_view.specs.Held.{Held, nothing};
 ghost use Rattle.line_view.specs.declared.need.Need.{Need};
-ghost use Rattle.session_states.specs.declared.stage.ReaderWork.TheVariants.{Due, Out};
+ghost use Rattle.session_states.specs.declared.stage.ReaderWork.TheVariants.{Due, Out, Copying};
 ghost use Rattle.lock_tree_laws.specs.Forest.{opened_of};
 ghost use Rattle.session_states.specs.declared.stage.ReaderStage.{ReaderStage};
 ghost use Rattle.session_states.specs.declared.stage.ReaderStage.TheVariants.{Between, Working, Gathering};
@@ -14,9 +14,10 @@ ghost use Rattle.session_states.specs.States.{reader, session};
 ghost use Rattle.session_measure.specs.Weights.{Beside, Falls};
 
 /// A read-only transaction begins, its statements are worked in rounds, and it ends with its script. What answers an item is one item fewer.
-/// In a round the needs are read in turn, or passed over.
+/// In a round the needs are read in turn, or passed over. An online backup begins one too, and goes on with the steps of the store.
 pub fn readers_go_on()
     ensures begins { (k l s : ℕ) (c d : Beside) (item : Item) (left : List Item) (total : ℕ) → Falls k l c d s (session (item ∷ left) total Outside) (session left total (Reading (reader Closed nothing false (Working item Due)))) }
+    ensures copies { (k l s : ℕ) (c d : Beside) (item : Item) (left : List Item) (total : ℕ) → Falls k l c d s (session (item ∷ left) total Outside) (session left total (Reading (reader Closed nothing false (Working item Copying)))) }
     ensures takes { (k l s : ℕ) (c : Beside) (item : Item) (left : List Item) (total : ℕ) (standing : Standing) (known : Held) (spoken : Bool) → Falls k l c c s (session (item ∷ left) total (Reading (reader standing known spoken Between))) (session left total (Reading (reader standing known spoken (Working item Due)))) }
     ensures hands_out { (k l s : ℕ) (c : Beside) (item : Item) (left : List Item) (total : ℕ) (standing : Standing) (known : Held) (spoken : Bool) → l < k → Falls k l c c s (session left total (Reading (reader standing known spoken (Working item Due)))) (session left total (Reading (reader standing known spoken (Working item Out)))) }
     ensures lacking { (k s : ℕ) (c : Beside) (item : Item) (left : List Item) (total : ℕ) (standing : Standing) (known : Held) (spoken : Bool) (n : Need) (later : List Need) → Falls k k c c s (session left total (Reading (reader standing known spoken (Working item Out)))) (session left total (Reading (reader standing known spoken (Gathering item n later 0)))) }

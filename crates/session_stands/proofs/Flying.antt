@@ -8,10 +8,10 @@ use Rattle.lock_tree_laws.specs.Wanted.{needs_of}
 use Rattle.kept_apart.specs.Guards.{may_write}
 use Rattle.line_view.specs.declared.writes.Write.{Write}
 use Rattle.session_states.specs.line_steps.Images.{journal_node}
-use Rattle.line_store.specs.Seats.{Seat, outside, beginning, writing, changing, prepared, committing, rolling_back, closing, reading, dead, in_flight, done_at}
+use Rattle.line_store.specs.Seats.{Seat, outside, beginning, writing, changing, broken, prepared, committing, rolling_back, closing, reading, copying, dead, in_flight, done_at}
 use Rattle.line_store.specs.Sights.{bare}
 use Rattle.session_states.specs.declared.stage.Work.TheVariants.{Opening, Due, Out, Lacking, Housing, Fetching, Lodging}
-use Rattle.session_states.specs.declared.stage.Laying.TheVariants.{Claiming, Changing}
+use Rattle.session_states.specs.declared.stage.Laying.TheVariants.{Claiming, Changing, Broken}
 use Rattle.session_states.specs.declared.stage.End.TheVariants.{Preparing, Journal, Ready, Committing, RollingBack, Leaving}
 use Rattle.session_states.specs.declared.stage.Stage.{Stage}
 use Rattle.session_states.specs.declared.stage.Stage.TheVariants.{Between, Working, Gathering, Reserving, Saying, Ending}
@@ -19,7 +19,8 @@ use Rattle.session_states.specs.declared.stage.Phase.{Phase}
 use Rattle.session_states.specs.declared.stage.Phase.TheVariants.{Outside, Closing, Writing, Reading, Over}
 use Rattle.session_states.specs.declared.stage.Life.{Life}
 use Rattle.session_states.specs.declared.stage.Life.TheVariants.{Alive, Dead, Gone}
-use Rattle.session_states.specs.States.{commits_at, commits_in}
+use Rattle.session_states.specs.States.{commits_at, commits_in, copies_at, seat_of_reader}
+use Rattle.session_states.proofs.ReaderSeats.{reader-flies}
 use Rattle.session_states.specs.Locks.{has_journal, HasJournal}
 use Rattle.session_stands.specs.Seated.{stand_of, IsStandOf, NeedsFit, LivesAt}
 
@@ -33,11 +34,13 @@ flies-bare outside = refl
 flies-bare beginning = refl
 flies-bare (writing ws) = refl
 flies-bare (changing ws) = refl
+flies-bare (broken ws) = refl
 flies-bare (prepared ws) = refl
 flies-bare (committing ws) = refl
 flies-bare (rolling_back ws) = refl
 flies-bare closing = refl
 flies-bare (reading start) = refl
+flies-bare (copying number start) = refl
 flies-bare (dead true ws) = refl
 flies-bare (dead false ws) = refl
 
@@ -46,11 +49,13 @@ done-rests outside h = refl
 done-rests beginning h = refl
 done-rests (writing ws) h = refl
 done-rests (changing ws) h = refl
+done-rests (broken ws) h = refl
 done-rests (prepared ws) h = refl
 done-rests (committing ws) h = absurd (none-some outside h)
 done-rests (rolling_back ws) h = refl
 done-rests closing h = refl
 done-rests (reading start) h = refl
+done-rests (copying number start) h = refl
 done-rests (dead commits ws) h = absurd (none-some outside h)
 
 rests : (x y : Seat) → x ≡ y → flies y ≡ false → flies x ≡ true → ⊥
@@ -69,6 +74,7 @@ stage-flies (Gathering item gather later place) h = absurd (false≢true h)
 stage-flies (Reserving item r locks place) h = absurd (false≢true h)
 stage-flies (Saying item r (Claiming place)) h = absurd (false≢true h)
 stage-flies (Saying item r Changing) h = absurd (false≢true h)
+stage-flies (Saying item r Broken) h = absurd (false≢true h)
 stage-flies (Ending Preparing) h = absurd (false≢true h)
 stage-flies (Ending Journal) h = absurd (false≢true h)
 stage-flies (Ending Ready) h = refl
@@ -108,7 +114,7 @@ phase-flies : (x : Phase) (seat : Seat) (needs : List Need) → IsStandOf x seat
 phase-flies Outside seat needs at f h = absurd (rests seat outside at refl h)
 phase-flies Closing seat needs at f h = absurd (false≢true (sym (done-rests seat at) ∙ h))
 phase-flies (Writing w) seat needs at f h = has-journal (has_journal w.stage) needs f (stage-flies w.stage (sym (ap flies at) ∙ h))
-phase-flies (Reading r) seat needs at f h = absurd (rests seat (reading []) at refl h)
+phase-flies (Reading r) seat needs at f h = absurd (rests seat (seat_of_reader (copies_at r.stage) []) at (ap is_some (reader-flies (copies_at r.stage) [])) h)
 phase-flies Over seat needs at f h = absurd (rests seat outside at refl h)
 
 pub life-flies : (stand : ℕ → Seat) (locks : State) (s : ℕ) (x : Phase) (life : Life) → LivesAt stand locks s x life → flies (stand s) ≡ true → may_write (needs_of locks s) journal_node ≡ true

@@ -17,7 +17,7 @@ use Rattle.line_view.specs.Held.{Held}
 use Rattle.line_view.specs.Knowledge.{Lines}
 use Rattle.kept_apart.specs.Guards.{may_write}
 use Rattle.session_jobs.specs.Records.{Model, IsOrderly}
-use Rattle.line_store.specs.Seats.{Seat, outside, beginning, writing, changing, prepared, committing, rolling_back, closing, reading, dead, in_flight, done_at}
+use Rattle.line_store.specs.Seats.{Seat, outside, beginning, writing, changing, broken, prepared, committing, rolling_back, closing, reading, copying, dead, in_flight, done_at}
 use Rattle.line_store.specs.Shelves.{Shelf}
 use Rattle.line_store.specs.Calls.{MayStand}
 use Rattle.session_states.specs.line_steps.Images.{IsCommitting, IsNow, IsStored, journal_node}
@@ -25,7 +25,7 @@ use Rattle.session_states.specs.line_steps.Members.{State as Seen, writing as se
 use Rattle.session_states.specs.line_steps.Right.{Ground, StandsAs}
 use Rattle.session_states.proofs.of_line_steps.Crashes.{stands-now}
 use Rattle.session_states.specs.declared.stage.Work.TheVariants.{Opening as OpeningIt, Due, Out, Lacking, Housing, Fetching, Lodging}
-use Rattle.session_states.specs.declared.stage.Laying.TheVariants.{Claiming, Changing}
+use Rattle.session_states.specs.declared.stage.Laying.TheVariants.{Claiming, Changing, Broken}
 use Rattle.session_states.specs.declared.stage.End.TheVariants.{Preparing, Journal, Ready, Committing, RollingBack, Leaving}
 use Rattle.session_states.specs.declared.stage.Stage.{Stage}
 use Rattle.session_states.specs.declared.stage.Stage.TheVariants.{Between, Working, Gathering, Reserving, Saying, Ending}
@@ -34,11 +34,12 @@ use Rattle.session_states.specs.declared.stage.Phase.TheVariants.{Outside, Closi
 use Rattle.session_states.specs.declared.stage.Life.{Life}
 use Rattle.session_states.specs.declared.stage.Life.TheVariants.{Alive, Dead, Gone}
 use Rattle.session_states.specs.declared.stage.Member.{Member}
-use Rattle.session_states.specs.States.{commits_at, commits_in, item_of, state_in, state_of, seen}
+use Rattle.session_states.specs.States.{commits_at, commits_in, copies_at, item_of, seat_of_reader, state_in, state_of, seen}
 use Rattle.session_states.specs.Shared.{Shared}
 use Rattle.session_states.specs.Fits.{DeskFits, PhaseFits, LifeFits}
 use Rattle.session_states.specs.Kept.{AreKept}
 use Rattle.session_states.proofs.Dying.{committing-state}
+use Rattle.session_states.proofs.ReaderSeats.{reader-flies}
 use Rattle.session_stands.specs.Sessions.{AreSeated, member_at}
 
 idle-seat : (seat here : Seat) (ws : List Write) → seat ≡ here → in_flight here ≡ None → in_flight seat ≡ Some ws → ⊥
@@ -49,11 +50,13 @@ done-idle outside h = refl
 done-idle beginning h = refl
 done-idle (writing ws) h = refl
 done-idle (changing ws) h = refl
+done-idle (broken ws) h = refl
 done-idle (prepared ws) h = absurd (none-some outside h)
 done-idle (committing ws) h = absurd (none-some outside h)
 done-idle (rolling_back ws) h = refl
 done-idle closing h = refl
 done-idle (reading start) h = refl
+done-idle (copying number start) h = refl
 done-idle (dead commits ws) h = absurd (none-some outside h)
 
 dead-flies : (b : Bool) (vs ws : List Write) → in_flight (dead b vs) ≡ Some ws → (b ≡ true) × (vs ≡ ws)
@@ -78,6 +81,7 @@ module _ (M : Model) (p : Place) (g : Ground) (c : Shared) (s : ℕ) (ws : List 
   stage-commits standing known (Reserving item r locks place) f = absurd (idle-seat (c.shelf.seat s) (writing (g.desk s).writes) ws f.1 refl h)
   stage-commits standing known (Saying item r (Claiming place)) f = absurd (idle-seat (c.shelf.seat s) (writing (g.desk s).writes) ws f.1 refl h)
   stage-commits standing known (Saying item r Changing) f = absurd (idle-seat (c.shelf.seat s) (changing f.behind) ws f.seat refl h)
+  stage-commits standing known (Saying item r Broken) f = absurd (idle-seat (c.shelf.seat s) (broken f.behind) ws f.seat refl h)
   stage-commits standing known (Ending Preparing) f = absurd (idle-seat (c.shelf.seat s) (writing (g.desk s).writes) ws f.1 refl h)
   stage-commits standing known (Ending Journal) f = absurd (idle-seat (c.shelf.seat s) (prepared (g.desk s).writes) ws f.1 refl h)
   stage-commits standing known (Ending Ready) f = absurd (idle-seat (c.shelf.seat s) (prepared (g.desk s).writes) ws f.1 refl h)
@@ -89,7 +93,7 @@ module _ (M : Model) (p : Place) (g : Ground) (c : Shared) (s : ℕ) (ws : List 
   phase-commits left Outside f = absurd (idle-seat (c.shelf.seat s) outside ws f.0 refl h)
   phase-commits left Closing f = absurd (none-some ws (sym (done-idle (c.shelf.seat s) f.0) ∙ h))
   phase-commits left (Writing w) f = stage-commits w.standing w.known w.stage f.desk
-  phase-commits left (Reading r) f = absurd (idle-seat (c.shelf.seat s) (reading (g.desk s).start) ws f.seat refl h)
+  phase-commits left (Reading r) f = absurd (idle-seat (c.shelf.seat s) (seat_of_reader (copies_at r.stage) (g.desk s).start) ws f.seat (reader-flies (copies_at r.stage) (g.desk s).start) h)
   phase-commits left Over f = absurd (idle-seat (c.shelf.seat s) outside ws f.0 refl h)
 
   life-commits : (left : List Item) (x : Phase) (life : Life) → LifeFits M p g c s left x life → CommitsBy g s ws (commits_in x)

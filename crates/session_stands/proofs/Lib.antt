@@ -1,4 +1,5 @@
 pub mod Flying
+pub mod Backing
 pub mod Journal
 pub mod Seating
 pub mod Seats

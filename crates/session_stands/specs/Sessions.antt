@@ -1,8 +1,9 @@
 -- What is true of all sessions: of what memory knows, and of each shelf that the store shows.
-use Rattle.std.specs.Prelude.{◌≡◌, ◌+◌, ℕ, zero, suc, true, List, [], ◌∷◌, Option, Some, None, slice_get}
+use Rattle.std.specs.Prelude.{◌≡◌, ◌+◌, ◌++◌, ℕ, zero, suc, true, List, [], ◌∷◌, Option, Some, None, slice_get}
 use Rattle.lock_tree_laws.specs.Forest.{State, idle, party_of}
 use Rattle.rdb_account.specs.Events.{Event}
 use Rattle.rdb_account.specs.Places.{Opening}
+use Rattle.rdb_account.specs.Backups.{backups}
 use Rattle.line_view.specs.declared.writes.Write.{Write}
 use Rattle.lock_tree_laws.specs.Wanted.{needs_of}
 use Rattle.kept_apart.specs.Guards.{may_write}
@@ -16,6 +17,8 @@ use Rattle.session_states.specs.declared.stage.Life.TheVariants.{Alive, Dead, Go
 use Rattle.session_states.specs.declared.stage.Member.{Member}
 use Rattle.session_states.specs.Shared.{Shared}
 use Rattle.session_states.specs.Kept.{AreKept}
+use Rattle.session_states.specs.Steps.{Step}
+use Rattle.session_stands.specs.Backed.{AreBacked, BackupsGo}
 use Rattle.session_stands.specs.Seated.{LivesAt}
 
 -- the session of this number, from 1
@@ -46,9 +49,17 @@ dead_in (m ∷ ms) = one_dead m.life + dead_in ms
 abbrev pub sharing : (word : List ℕ) → Shelf → State → (dead : ℕ) → Shared
 sharing word shelf locks dead = record { word = word; shelf = shelf; locks = locks; dead = dead }
 
--- A shelf is shown with which all that is always true of sessions is so: their account is legal, and each of them stands as it has it. What a crash might have left since the opening, or since a commit, stands for what was committed then, or more.
+-- A shelf is shown with which all that is always true of sessions is so: their account is legal, and each of them stands as it has it. What a crash might have left since the opening, or since a commit, stands for what was committed then, or more. Each backup that counts is whole.
 pub record IsTold (M : Model) (o : Opening) (word : List ℕ) (sight : Sight) (locks : State) (members : List Member) (events : List Event) : Type 0 where
   pub shelf : Shelf
   pub shown : sight.shows shelf
   pub kept : AreKept M o (sharing word shelf locks (dead_in members)) members events
   pub images : AreLeft M o events sight.left sight.opens shelf.clock.time
+  pub backups : AreBacked M (backups o events) sight shelf.clock.time
+
+-- Where session i + 1 steps from m to n with these events, and begins the backup of this number or none, backups go on so between any two shelves that are shown.
+abbrev pub KeepsBackups : Model → Opening → (word then : List ℕ) → (old new : Sight) → (locks behind : State) → List Member → (events es : List Event) → ℕ → (m n : Member) → Option ℕ → Type 0
+KeepsBackups M o word then old new locks behind members events es i m n number =
+    (h g : Shelf) → old.shows h → new.shows g → ((dead : ℕ) → Step M (suc i) (sharing word h locks dead) m (sharing then g behind dead) n es) →
+    AreKept M o (sharing word h locks (dead_in members)) members events → AreBacked M (backups o events) old h.clock.time →
+    BackupsGo M (suc i) number (backups o events) (backups o (events ++ es)) new g.clock.time

@@ -23,7 +23,7 @@ use Rattle.store_counts.proofs.Lines.{claimed-on}
 use Rattle.store_counts.proofs.Places.{HasMore, more-same, claimed-more, events-stay, touched-on}
 use Rattle.session_states.specs.declared.stage.Gather.TheVariants as gather
 use Rattle.session_states.specs.declared.stage.Work.TheVariants.{Opening as OpeningIt, Due, Out, Lacking, Housing, Fetching, Lodging}
-use Rattle.session_states.specs.declared.stage.Laying.TheVariants.{Claiming, Changing}
+use Rattle.session_states.specs.declared.stage.Laying.TheVariants.{Claiming, Changing, Broken}
 use Rattle.session_states.specs.declared.stage.End.TheVariants.{Preparing, Journal, Ready, Committing, RollingBack, Leaving}
 use Rattle.session_states.specs.declared.stage.Stage.{Stage}
 use Rattle.session_states.specs.declared.stage.Stage.TheVariants.{Between, Working, Gathering, Reserving, Saying, Ending}
@@ -49,6 +49,7 @@ claims-more p q s touched written (Gathering item (gather.Lodging room key) late
 claims-more p q s touched written (Reserving item r locks place) h = tt
 claims-more p q s touched written (Saying item r (Claiming place)) h = claimed-on p q s s (claimed-more p q s s touched written) (take place r.writes) h
 claims-more p q s touched written (Saying item r Changing) h = tt
+claims-more p q s touched written (Saying item r Broken) h = tt
 claims-more p q s touched written (Ending end) h = tt
 
 pub claims-stay : (h : Shelf) (o : Opening) (p : Place) (es : List Event) (s : ℕ) → CountNothing h es → is_some ((place_from o p es).transaction s) ≡ true → (stage : Stage) → ClaimsFit p s stage → ClaimsFit (place_from o p es) s stage
@@ -130,6 +131,7 @@ claims-got o q s y (Saying item r (Claiming place)) n is_open wants h =
     one : (k : ℕ) → suc k ≡ k + 1
     one k = omega arith
 claims-got o q s y (Saying item r Changing) n is_open wants h = absurd (none-some n wants)
+claims-got o q s y (Saying item r Broken) n is_open wants h = absurd (none-some n wants)
 claims-got o q s y (Ending Preparing) n is_open wants h = tt
 claims-got o q s y (Ending Journal) n is_open wants h = tt
 claims-got o q s y (Ending Ready) n is_open wants h = tt

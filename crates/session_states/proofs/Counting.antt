@@ -5,7 +5,7 @@ use Rattle.std.proofs.lemmas.Option.{none-some, same_Some}
 use Rattle.line_view.specs.declared.writes.Write.{Write}
 use Rattle.rdb_account.specs.Events.{Event, Committed}
 use Rattle.rdb_account.specs.Places.{Opening, Place, Transaction, after, place_from, at, is_writer, committed_by}
-use Rattle.line_store.specs.Seats.{Seat, outside, beginning, writing, changing, prepared, committing, rolling_back, closing, reading, dead, writes_of, set_aside, done_at, died, committing_by, rolled_back}
+use Rattle.line_store.specs.Seats.{Seat, outside, beginning, writing, changing, broken, prepared, committing, rolling_back, closing, reading, copying, dead, writes_of, set_aside, done_at, failed_at, died, committing_by, rolled_back}
 use Rattle.line_store.specs.Shelves.{Shelf}
 use Rattle.line_store.specs.Calls.{Moves, Commits, KeepsOthers}
 use Rattle.line_steps.proofs.of_lock_ties.Places.{at-same, at-other}
@@ -21,11 +21,13 @@ rolled-writes outside = refl
 rolled-writes beginning = refl
 rolled-writes (writing ws) = refl
 rolled-writes (changing ws) = refl
+rolled-writes (broken ws) = refl
 rolled-writes (prepared ws) = refl
 rolled-writes (committing ws) = refl
 rolled-writes (rolling_back ws) = refl
 rolled-writes closing = refl
 rolled-writes (reading start) = refl
+rolled-writes (copying number start) = refl
 rolled-writes (dead commits ws) = refl
 
 pub committing-writes : (seat : Seat) → writes_of (committing_by seat) ≡ writes_of seat
@@ -33,12 +35,28 @@ committing-writes outside = refl
 committing-writes beginning = refl
 committing-writes (writing ws) = refl
 committing-writes (changing ws) = refl
+committing-writes (broken ws) = refl
 committing-writes (prepared ws) = refl
 committing-writes (committing ws) = refl
 committing-writes (rolling_back ws) = refl
 committing-writes closing = refl
 committing-writes (reading start) = refl
+committing-writes (copying number start) = refl
 committing-writes (dead commits ws) = refl
+
+pub failed-writes : (seat : Seat) → writes_of (failed_at seat) ≡ writes_of seat
+failed-writes outside = refl
+failed-writes beginning = refl
+failed-writes (writing ws) = refl
+failed-writes (changing ws) = refl
+failed-writes (broken ws) = refl
+failed-writes (prepared ws) = refl
+failed-writes (committing ws) = refl
+failed-writes (rolling_back ws) = refl
+failed-writes closing = refl
+failed-writes (reading start) = refl
+failed-writes (copying number start) = refl
+failed-writes (dead commits ws) = refl
 
 -- ---- what is set aside
 
@@ -47,11 +65,13 @@ rolled-aside outside = omega arith
 rolled-aside beginning = omega arith
 rolled-aside (writing ws) = omega arith
 rolled-aside (changing ws) = omega arith
+rolled-aside (broken ws) = omega arith
 rolled-aside (prepared ws) = omega arith
 rolled-aside (committing ws) = omega arith
 rolled-aside (rolling_back ws) = omega arith
 rolled-aside closing = omega arith
 rolled-aside (reading start) = omega arith
+rolled-aside (copying number start) = omega arith
 rolled-aside (dead commits ws) = omega arith
 
 pub committing-aside : (seat : Seat) → set_aside (committing_by seat) ≤ set_aside seat
@@ -59,23 +79,41 @@ committing-aside outside = omega arith
 committing-aside beginning = omega arith
 committing-aside (writing ws) = omega arith
 committing-aside (changing ws) = omega arith
+committing-aside (broken ws) = omega arith
 committing-aside (prepared ws) = omega arith
 committing-aside (committing ws) = omega arith
 committing-aside (rolling_back ws) = omega arith
 committing-aside closing = omega arith
 committing-aside (reading start) = omega arith
+committing-aside (copying number start) = omega arith
 committing-aside (dead commits ws) = omega arith
+
+pub failed-aside : (seat : Seat) → set_aside (failed_at seat) ≤ set_aside seat
+failed-aside outside = omega arith
+failed-aside beginning = omega arith
+failed-aside (writing ws) = omega arith
+failed-aside (changing ws) = omega arith
+failed-aside (broken ws) = omega arith
+failed-aside (prepared ws) = omega arith
+failed-aside (committing ws) = omega arith
+failed-aside (rolling_back ws) = omega arith
+failed-aside closing = omega arith
+failed-aside (reading start) = omega arith
+failed-aside (copying number start) = omega arith
+failed-aside (dead commits ws) = omega arith
 
 pub died-aside : (seat : Seat) → set_aside (died seat) ≤ set_aside seat
 died-aside outside = omega arith
 died-aside beginning = omega arith
 died-aside (writing ws) = omega arith
 died-aside (changing ws) = omega arith
+died-aside (broken ws) = omega arith
 died-aside (prepared ws) = omega arith
 died-aside (committing ws) = omega arith
 died-aside (rolling_back ws) = omega arith
 died-aside closing = omega arith
 died-aside (reading start) = omega arith
+died-aside (copying number start) = omega arith
 died-aside (dead commits ws) = omega arith
 
 pub done-aside : (seat there : Seat) → done_at seat ≡ Some there → set_aside there ≡ 0
@@ -83,11 +121,13 @@ done-aside outside there h = absurd (none-some there h)
 done-aside beginning there h = ap set_aside (same_Some there (writing []) (sym h))
 done-aside (writing ws) there h = absurd (none-some there h)
 done-aside (changing ws) there h = ap set_aside (same_Some there (writing ws) (sym h))
+done-aside (broken ws) there h = absurd (none-some there h)
 done-aside (prepared ws) there h = absurd (none-some there h)
 done-aside (committing ws) there h = absurd (none-some there h)
 done-aside (rolling_back ws) there h = ap set_aside (same_Some there outside (sym h))
 done-aside closing there h = ap set_aside (same_Some there outside (sym h))
 done-aside (reading start) there h = absurd (none-some there h)
+done-aside (copying number start) there h = ap set_aside (same_Some there (reading start) (sym h))
 done-aside (dead commits ws) there h = absurd (none-some there h)
 
 -- ---- the store alone moves

@@ -17,7 +17,7 @@ use Rattle.line_view.specs.Held.{Held, knows, nothing}
 use Rattle.line_view.specs.Knowledge.{Lines}
 use Rattle.line_view.specs.Writes.{laid_all}
 use Rattle.line_steps.specs.session_jobs.Records.{Model, IsOrderly}
-use Rattle.line_store.specs.Seats.{Seat, outside as seat_outside, beginning, writing as seat_writing, changing, prepared, committing, rolling_back, closing, reading as seat_reading, dead, is_committing, writes_of, in_flight, done_at, died}
+use Rattle.line_store.specs.Seats.{Seat, outside as seat_outside, beginning, writing as seat_writing, changing, broken, prepared, committing, rolling_back, closing, reading as seat_reading, copying, dead, is_committing, writes_of, in_flight, done_at, died}
 use Rattle.line_store.specs.Shelves.{Shelf}
 use Rattle.line_store.specs.Calls.{Moves, IsUndone, IsSaved}
 use Rattle.line_steps.specs.Members.{State, member, fallen, recovered, writing, under_way, awaited, left_of as all_left, life_of}
@@ -27,7 +27,7 @@ use Rattle.line_steps.proofs.Common.{next-none}
 use Rattle.line_steps.proofs.Dying.{dies, recovers-undone, recovers-committed}
 use Rattle.line_steps.proofs.Kept.{in-turn, elapses}
 use Rattle.session_states.specs.declared.stage.Work.TheVariants.{Opening as OpeningIt, Due, Out, Lacking, Housing, Fetching, Lodging}
-use Rattle.session_states.specs.declared.stage.Laying.TheVariants.{Claiming, Changing}
+use Rattle.session_states.specs.declared.stage.Laying.TheVariants.{Claiming, Changing, Broken}
 use Rattle.session_states.specs.declared.stage.End.TheVariants.{Preparing, Journal, Ready, Committing, RollingBack, Leaving}
 use Rattle.session_states.specs.declared.stage.Stage.{Stage}
 use Rattle.session_states.specs.declared.stage.Stage.TheVariants.{Between, Working, Gathering, Reserving, Saying, Ending}
@@ -35,13 +35,14 @@ use Rattle.session_states.specs.declared.stage.ReaderStage.{ReaderStage}
 use Rattle.session_states.specs.declared.stage.ReaderStage.TheVariants as look
 use Rattle.session_states.specs.declared.stage.Phase.{Phase}
 use Rattle.session_states.specs.declared.stage.Phase.TheVariants.{Outside, Closing, Writing, Reading, Over}
-use Rattle.session_states.specs.States.{item_of, reader_item, state_in, commits_at, commits_in, is_between, is_reader_between, has_said_all, may_die_in, seen, session, dead_session, gone_session}
+use Rattle.session_states.specs.States.{item_of, reader_item, state_in, commits_at, commits_in, copies_at, is_between, is_reader_between, has_said_all, may_die_in, seen, session, dead_session, gone_session}
 use Rattle.session_states.specs.Shared.{Shared, with_shelf, with_death, with_recovery, RestsWith}
 use Rattle.session_states.specs.Fits.{DeskFits, PhaseFits}
 use Rattle.session_states.specs.Steps.{Fall}
 use Rattle.session_states.proofs.Basics.{at_time}
 use Rattle.session_states.proofs.Ends.{committed-place, gone-tied}
 use Rattle.session_states.proofs.Flying.{phase-journal}
+use Rattle.session_states.proofs.ReaderSeats.{reader-idle}
 use Rattle.line_steps.proofs.of_lock_ties.Places.{at-same}
 use Rattle.store_counts.proofs.Kept.{counted-events}
 use Rattle.session_states.proofs.Counting.{died-aside, counted-moved, counted-ended, counted-committed}
@@ -110,11 +111,13 @@ undone-idle seat_outside h = refl
 undone-idle beginning h = refl
 undone-idle (seat_writing ws) h = refl
 undone-idle (changing ws) h = refl
+undone-idle (broken ws) h = refl
 undone-idle (prepared ws) h = absurd (none-some seat_outside h)
 undone-idle (committing ws) h = absurd (none-some seat_outside h)
 undone-idle (rolling_back ws) h = refl
 undone-idle closing h = refl
 undone-idle (seat_reading start) h = refl
+undone-idle (copying number start) h = refl
 undone-idle (dead commits ws) h = refl
 
 saved-so : (b : Bool) (writes ws : List Write) → Some writes ≡ in_flight (dead b ws) → (b ≡ true) × (writes ≡ ws)
@@ -142,6 +145,7 @@ module _ (M : Model) (orderly : IsOrderly M) where
   stage-seat p g c s standing known (Reserving item r locks place) f = idle g c s (ap is_committing f.1)
   stage-seat p g c s standing known (Saying item r (Claiming place)) f = idle g c s (ap is_committing f.1)
   stage-seat p g c s standing known (Saying item r Changing) f = idle g c s (ap is_committing f.seat)
+  stage-seat p g c s standing known (Saying item r Broken) f = idle g c s (ap is_committing f.seat)
   stage-seat p g c s standing known (Ending Preparing) f = idle g c s (ap is_committing f.1)
   stage-seat p g c s standing known (Ending Journal) f = idle g c s (ap is_committing f.1)
   stage-seat p g c s standing known (Ending Ready) f = idle g c s (ap is_committing f.1)
@@ -153,7 +157,7 @@ module _ (M : Model) (orderly : IsOrderly M) where
   phase-seat p g c s left Outside f = idle g c s (ap is_committing f.0)
   phase-seat p g c s left Closing f = idle g c s (undone-idle (c.shelf.seat s) f.0)
   phase-seat p g c s left (Writing w) f = stage-seat p g c s w.standing w.known w.stage f.desk
-  phase-seat p g c s left (Reading r) f = idle g c s (ap is_committing f.seat)
+  phase-seat p g c s left (Reading r) f = idle g c s (ap is_committing f.seat ∙ reader-idle (copies_at r.stage) (g.desk s).start)
   phase-seat p g c s left Over f = idle g c s (ap is_committing f.0)
 
   -- ---- a death

@@ -14,12 +14,12 @@ use Rattle.line_view.specs.declared.writes.Write.{Write}
 use Rattle.line_view.specs.Held.{Held}
 use Rattle.stepped_jobs.specs.kept_apart.Guards.{may_write}
 use Rattle.line_steps.specs.session_jobs.Records.{Model, IsOrderly}
-use Rattle.line_store.specs.Seats.{Seat, outside, beginning, writing, changing, prepared, committing, rolling_back, closing, reading, dead, in_flight, done_at}
+use Rattle.line_store.specs.Seats.{Seat, outside, beginning, writing, changing, broken, prepared, committing, rolling_back, closing, reading, copying, dead, in_flight, done_at}
 use Rattle.line_steps.specs.lock_ties.Ties.{IsTiedTo, needs_at}
 use Rattle.line_steps.specs.Images.{journal_node}
 use Rattle.line_steps.specs.Right.{Ground}
 use Rattle.session_states.specs.declared.stage.Work.TheVariants.{Opening as OpeningIt, Due, Out, Lacking, Housing, Fetching, Lodging}
-use Rattle.session_states.specs.declared.stage.Laying.TheVariants.{Claiming, Changing}
+use Rattle.session_states.specs.declared.stage.Laying.TheVariants.{Claiming, Changing, Broken}
 use Rattle.session_states.specs.declared.stage.End.TheVariants.{Preparing, Journal, Ready, Committing, RollingBack, Leaving}
 use Rattle.session_states.specs.declared.stage.Stage.{Stage}
 use Rattle.session_states.specs.declared.stage.Stage.TheVariants.{Between, Working, Gathering, Reserving, Saying, Ending}
@@ -28,10 +28,11 @@ use Rattle.session_states.specs.declared.stage.Phase.TheVariants.{Outside, Closi
 use Rattle.session_states.specs.declared.stage.Life.{Life}
 use Rattle.session_states.specs.declared.stage.Life.TheVariants.{Alive, Dead, Gone}
 use Rattle.session_states.specs.declared.stage.Member.{Member}
-use Rattle.session_states.specs.States.{commits_at, commits_in, writer, session}
+use Rattle.session_states.specs.States.{commits_at, commits_in, copies_at, seat_of_reader, writer, session}
 use Rattle.session_states.specs.Shared.{Shared}
 use Rattle.session_states.specs.Fits.{StageFits, DeskFits, PhaseFits, LifeFits}
 use Rattle.session_states.specs.Kept.{AreKept}
+use Rattle.session_states.proofs.ReaderSeats.{reader-flies}
 
 -- no commit is under way from such a seat
 idle-seat : (seat here : Seat) (ws : List Write) → seat ≡ here → in_flight here ≡ None → in_flight seat ≡ Some ws → ⊥
@@ -42,11 +43,13 @@ done-idle outside h = refl
 done-idle beginning h = refl
 done-idle (writing ws) h = refl
 done-idle (changing ws) h = refl
+done-idle (broken ws) h = refl
 done-idle (prepared ws) h = absurd (none-some outside h)
 done-idle (committing ws) h = absurd (none-some outside h)
 done-idle (rolling_back ws) h = refl
 done-idle closing h = refl
 done-idle (reading start) h = refl
+done-idle (copying number start) h = refl
 done-idle (dead commits ws) h = absurd (none-some outside h)
 
 dead-flies : (b : Bool) (vs ws : List Write) → in_flight (dead b vs) ≡ Some ws → b ≡ true
@@ -71,6 +74,7 @@ module _ (M : Model) (orderly : IsOrderly M) where
   stage-flies word p g c s standing known spoken (Reserving item r locks place) f st ws h = absurd (idle-seat (c.shelf.seat s) (writing (g.desk s).writes) ws f.1 refl h)
   stage-flies word p g c s standing known spoken (Saying item r (Claiming place)) f st ws h = absurd (idle-seat (c.shelf.seat s) (writing (g.desk s).writes) ws f.1 refl h)
   stage-flies word p g c s standing known spoken (Saying item r Changing) f st ws h = absurd (idle-seat (c.shelf.seat s) (changing f.behind) ws f.seat refl h)
+  stage-flies word p g c s standing known spoken (Saying item r Broken) f st ws h = absurd (idle-seat (c.shelf.seat s) (broken f.behind) ws f.seat refl h)
   stage-flies word p g c s standing known spoken (Ending Preparing) f st ws h = absurd (idle-seat (c.shelf.seat s) (writing (g.desk s).writes) ws f.1 refl h)
   stage-flies word p g c s standing known spoken (Ending Journal) f st ws h = absurd (idle-seat (c.shelf.seat s) (prepared (g.desk s).writes) ws f.1 refl h)
   stage-flies word p g c s standing known spoken (Ending Ready) f st ws h = st.1
@@ -82,7 +86,7 @@ module _ (M : Model) (orderly : IsOrderly M) where
   phase-flies p g c s left Outside f ws h = absurd (idle-seat (c.shelf.seat s) outside ws f.0 refl h)
   phase-flies p g c s left Closing f ws h = absurd (none-some ws (sym (done-idle (c.shelf.seat s) f.0) ∙ h))
   phase-flies p g c s left (Writing w) f ws h = stage-flies c.word p g c s w.standing w.known w.spoken w.stage f.desk f.stage ws h
-  phase-flies p g c s left (Reading r) f ws h = absurd (idle-seat (c.shelf.seat s) (reading (g.desk s).start) ws f.seat refl h)
+  phase-flies p g c s left (Reading r) f ws h = absurd (idle-seat (c.shelf.seat s) (seat_of_reader (copies_at r.stage) (g.desk s).start) ws f.seat (reader-flies (copies_at r.stage) (g.desk s).start) h)
   phase-flies p g c s left Over f ws h = absurd (idle-seat (c.shelf.seat s) outside ws f.0 refl h)
 
   pub life-flies : (p : Place) (g : Ground) (c : Shared) (s : ℕ) (left : List Item) (x : Phase) (life : Life) → LifeFits M p g c s left x life → IsTiedTo p c.locks → (ws : List Write) → in_flight (c.shelf.seat s) ≡ Some ws →

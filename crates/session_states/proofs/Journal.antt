@@ -31,7 +31,7 @@ use Rattle.line_steps.specs.Right.{Ground, Stands}
 use Rattle.line_steps.specs.Images.{journal_node}
 use Rattle.session_states.specs.declared.stage.Work.TheVariants.{Opening as OpeningIt, Due, Out, Lacking, Housing, Fetching, Lodging}
 use Rattle.session_states.specs.declared.stage.Gather.TheVariants.{Locking, Housing as HousingOf, Reading as ReadingOf, Lodging as LodgingOf}
-use Rattle.session_states.specs.declared.stage.Laying.TheVariants.{Claiming, Changing}
+use Rattle.session_states.specs.declared.stage.Laying.TheVariants.{Claiming, Changing, Broken}
 use Rattle.session_states.specs.declared.stage.End.TheVariants.{Preparing, Journal, Ready, Committing, RollingBack, Leaving}
 use Rattle.session_states.specs.declared.stage.Stage.{Stage}
 use Rattle.session_states.specs.declared.stage.Stage.TheVariants.{Between, Working, Gathering, Reserving, Saying, Ending}
@@ -95,6 +95,7 @@ lock-is (Gathering item (LodgingOf room key) later place) n wants off' = absurd 
 lock-is (Reserving item r locks place) n wants off' = at-place (λ m. is_on journal_node m.node ≡ false) locks place n wants off'
 lock-is (Saying item r (Claiming place)) n wants off' = let at = write-at r.writes place n wants in off (lock (line_node at.0.key) EX) n refl at.2
 lock-is (Saying item r Changing) n wants off' = absurd (none-some n wants)
+lock-is (Saying item r Broken) n wants off' = absurd (none-some n wants)
 lock-is (Ending Preparing) n wants off' = absurd (none-some n wants)
 lock-is (Ending Journal) n wants off' = sym (same_Some _ n wants)
 lock-is (Ending Ready) n wants off' = absurd (none-some n wants)

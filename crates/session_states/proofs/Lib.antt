@@ -17,8 +17,10 @@ pub mod Parting
 pub mod Ending
 pub mod Outside
 pub mod Serving
+pub mod ReaderSeats
 pub mod Reading
 pub mod ReadingEnds
+pub mod Copying
 pub mod Dying
 pub mod Opened
 pub mod Claims

@@ -35,7 +35,7 @@ use Rattle.line_steps.specs.Right.{Ground, Writes}
 use Rattle.line_steps.proofs.Wants.{takes-locks}
 use Rattle.session_states.specs.declared.stage.Work.TheVariants.{Opening as OpeningIt, Due, Out, Lacking, Housing, Fetching, Lodging}
 use Rattle.session_states.specs.declared.stage.Gather.TheVariants as gather
-use Rattle.session_states.specs.declared.stage.Laying.TheVariants.{Claiming, Changing}
+use Rattle.session_states.specs.declared.stage.Laying.TheVariants.{Claiming, Changing, Broken}
 use Rattle.session_states.specs.declared.stage.End.TheVariants.{Preparing, Journal, Ready, Committing, RollingBack, Leaving}
 use Rattle.session_states.specs.declared.stage.Stage.{Stage}
 use Rattle.session_states.specs.declared.stage.Stage.TheVariants.{Between, Working, Gathering, Reserving, Saying, Ending}
@@ -187,6 +187,7 @@ wanting-rests (Gathering i gather later place) n item wants is stays = refl
 wanting-rests (Reserving i r locks place) n item wants is stays = refl
 wanting-rests (Saying i r (Claiming place)) n item wants is stays = refl
 wanting-rests (Saying i r Changing) n item wants is stays = absurd (none-some n wants)
+wanting-rests (Saying i r Broken) n item wants is stays = absurd (none-some n wants)
 wanting-rests (Ending Preparing) n item wants is stays = refl
 wanting-rests (Ending Journal) n item wants is stays = absurd (false≢true (sym stays ∙ ap ends_by (sym (same_Some (said commit) item is))))
 wanting-rests (Ending Ready) n item wants is stays = absurd (none-some n wants)
@@ -210,6 +211,7 @@ module _ (M : Model) (orderly : IsOrderly M) where
   desk-wanting p g c s standing known (Reserving item r locks place) n wants f = f
   desk-wanting p g c s standing known (Saying item r (Claiming place)) n wants f = f
   desk-wanting p g c s standing known (Saying item r Changing) n wants f = absurd (none-some n wants)
+  desk-wanting p g c s standing known (Saying item r Broken) n wants f = absurd (none-some n wants)
   desk-wanting p g c s standing known (Ending Preparing) n wants f = absurd (none-some n wants)
   desk-wanting p g c s standing known (Ending Journal) n wants f = f
   desk-wanting p g c s standing known (Ending Ready) n wants f = absurd (none-some n wants)
@@ -232,6 +234,7 @@ module _ (M : Model) (orderly : IsOrderly M) where
   desk-resting p g c s standing known (Reserving item r locks place) idle f = f
   desk-resting p g c s standing known (Saying item r (Claiming place)) idle f = f
   desk-resting p g c s standing known (Saying item r Changing) idle f = absurd (false≢true idle)
+  desk-resting p g c s standing known (Saying item r Broken) idle f = absurd (false≢true idle)
   desk-resting p g c s standing known (Ending Preparing) idle f = f
   desk-resting p g c s standing known (Ending Journal) idle f = absurd (false≢true idle)
   desk-resting p g c s standing known (Ending Ready) idle f = absurd (false≢true idle)
@@ -254,6 +257,7 @@ module _ (M : Model) (orderly : IsOrderly M) where
   desk-asks p g c s standing known (Reserving item r locks place) n wants k at = ((k, at), (k, at))
   desk-asks p g c s standing known (Saying item r (Claiming place)) n wants k at = ((k, at), (k, at))
   desk-asks p g c s standing known (Saying item r Changing) n wants k at = absurd (none-some n wants)
+  desk-asks p g c s standing known (Saying item r Broken) n wants k at = absurd (none-some n wants)
   desk-asks p g c s standing known (Ending Preparing) n wants k at = absurd (none-some n wants)
   desk-asks p g c s standing known (Ending Journal) n wants k at = ((k, at), (k, at))
   desk-asks p g c s standing known (Ending Ready) n wants k at = absurd (none-some n wants)
@@ -315,6 +319,7 @@ module _ (M : Model) (orderly : IsOrderly M) where
           (subst (λ (m : LockNeed). may_write (has ++ m ∷ []) (line_node w.key) ≡ true) is (writes-new has (lock (line_node w.key) EX) refl))
           (own-more has (n ∷ []) (take place ws) own))
   stage-got word has standing known spoken (Saying item r Changing) n wants f = absurd (none-some n wants)
+  stage-got word has standing known spoken (Saying item r Broken) n wants f = absurd (none-some n wants)
   stage-got word has standing known spoken (Ending Preparing) n wants f = absurd (none-some n wants)
   stage-got word has standing known spoken (Ending Journal) n wants f =
       (f.0, subst (λ (m : LockNeed). may_write (has ++ m ∷ []) journal_node ≡ true) (same_Some _ n wants) (writes-new has (lock journal_node EX) refl))
@@ -377,6 +382,7 @@ module _ (M : Model) (orderly : IsOrderly M) where
       (statement-asks o p g s standing (knows known) (uttered_of item) (is_on_line_of at.0.key.area EX) (lock (line_node at.0.key) EX) n f.here.fit.stands f.here.stands.state (rw (on-own-line at.0.key.area) refl) at.2
       (λ all t m agrees. asked-at standing (uttered_of item) t r.writes place at.0 at.1 (f.fits.phase.stage.1.0.asked all t m agrees)))
   lock-asks o p g c s left total standing known spoken waits (Saying item r Changing) n wants f = absurd (none-some n wants)
+  lock-asks o p g c s left total standing known spoken waits (Saying item r Broken) n wants f = absurd (none-some n wants)
   lock-asks o p g c s left total standing known spoken waits (Ending Preparing) n wants f = absurd (none-some n wants)
   lock-asks o p g c s left total standing known spoken waits (Ending Journal) n wants f = commit-asks standing (g.desk s).known n (writes-on o p g s standing (Some (said commit)) spoken f.here.stands.state f.fits.phase.spoken f.fits.phase.stage.0) wants
   lock-asks o p g c s left total standing known spoken waits (Ending Ready) n wants f = absurd (none-some n wants)

@@ -6,7 +6,7 @@ use Rattle.lock_tree_laws.specs.Forest.{Parties, idle, open_asks, party_of}
 use Rattle.rdb_account.specs.Places.{Opening, start}
 use Rattle.line_view.specs.Held.{knows, nothing}
 use Rattle.line_steps.specs.session_jobs.Records.{Model, IsOrderly}
-use Rattle.line_store.specs.Seats.{Seat, outside, beginning, writing, changing, prepared, committing, rolling_back, closing, reading, dead, in_flight, set_aside, lines_written}
+use Rattle.line_store.specs.Seats.{Seat, outside, beginning, writing, changing, broken, prepared, committing, rolling_back, closing, reading, copying, dead, in_flight, set_aside, lines_written}
 use Rattle.line_steps.specs.lock_ties.Ties.{AreTied, IsTiedTo}
 use Rattle.journal_waits.specs.Holders.{KeepsTo}
 use Rattle.line_steps.specs.Images.{journal_node}
@@ -41,11 +41,13 @@ idle-flies outside h = refl
 idle-flies beginning h = refl
 idle-flies (writing ws) h = refl
 idle-flies (changing ws) h = refl
+idle-flies (broken ws) h = refl
 idle-flies (prepared ws) h = refl
 idle-flies (committing ws) h = absurd (some-aside (lines_written ws) h)
 idle-flies (rolling_back ws) h = refl
 idle-flies closing h = refl
 idle-flies (reading start) h = refl
+idle-flies (copying number start) h = refl
 idle-flies (dead true ws) h = absurd (some-aside (lines_written ws) h)
 idle-flies (dead false ws) h = refl
 

@@ -6,7 +6,7 @@ use Rattle.rdo_ast.specs.declared.reply.Reply.TheVariants.{NoMemory}
 use Rattle.rdo_ast.specs.declared.reply.Standing.{Standing}
 use Rattle.rdo_ast.specs.declared.reply.Standing.TheVariants.{Closed}
 use Rattle.rdo_ast.specs.declared.syntax.Item.{Item}
-use Rattle.rdo_ast.specs.Tree.{Uttered, said, syntax_fault, invoke, start_read_only, start_read_write, commit, rollback, finish, perform, define_field, define_relation, define_index, delete_relation, delete_index}
+use Rattle.rdo_ast.specs.Tree.{Uttered, said, syntax_fault, invoke, start_read_only, start_read_write, commit, rollback, finish, back_up, perform, define_field, define_relation, define_index, delete_relation, delete_index}
 use Rattle.rdo_ast.specs.Views.{uttered_of}
 use Rattle.rdb_meaning.specs.declared.tables.Tables.{Tables}
 use Rattle.line_steps.specs.Right.{Ground}
@@ -48,6 +48,7 @@ none-ends word (said (start_read_write wait rs)) ks t = ends-none (said (start_r
 none-ends word (said commit) ks t = refl
 none-ends word (said rollback) ks t = refl
 none-ends word (said finish) ks t = ends-none (said finish) (meaning word Closed (said finish) ks t) refl
+none-ends word (said (back_up n)) ks t = ends-none (said (back_up n)) (meaning word Closed (said (back_up n)) ks t) refl
 none-ends word (said (perform a)) ks t = ends-none (said (perform a)) (meaning word Closed (said (perform a)) ks t) refl
 none-ends word (said (define_field n type)) ks t = ends-none (said (define_field n type)) (meaning word Closed (said (define_field n type)) ks t) refl
 none-ends word (said (define_relation n fs)) ks t = ends-none (said (define_relation n fs)) (meaning word Closed (said (define_relation n fs)) ks t) refl

@@ -4,7 +4,7 @@ use Rattle.std.proofs.lemmas.Option.{none-some, same_Some}
 use Rattle.rdo_ast.specs.declared.reply.Standing.{Standing}
 use Rattle.rdo_ast.specs.declared.reply.Standing.TheVariants.{Closed}
 use Rattle.rdo_ast.specs.declared.syntax.Item.{Item}
-use Rattle.rdo_ast.specs.Tree.{Uttered, said, syntax_fault, invoke, start_read_only, start_read_write, commit, rollback, finish, perform, define_field, define_relation, define_index, delete_relation, delete_index}
+use Rattle.rdo_ast.specs.Tree.{Uttered, said, syntax_fault, invoke, start_read_only, start_read_write, commit, rollback, finish, back_up, perform, define_field, define_relation, define_index, delete_relation, delete_index}
 use Rattle.rdo_ast.specs.Views.{uttered_of}
 use Rattle.rdb_account.specs.Events.{Began}
 use Rattle.rdb_account.specs.Places.{Place, at, begins, begun, is_writer}
@@ -70,6 +70,7 @@ begins-stays (said (start_read_write wait rs)) kind h = refl
 begins-stays (said commit) kind h = absurd (none-some kind h)
 begins-stays (said rollback) kind h = absurd (none-some kind h)
 begins-stays (said finish) kind h = refl
+begins-stays (said (back_up n)) kind h = refl
 begins-stays (said (perform a)) kind h = refl
 begins-stays (said (define_field n type)) kind h = refl
 begins-stays (said (define_relation n fs)) kind h = refl

@@ -20,7 +20,7 @@ use Rattle.rdb_account.specs.Lawful.{is_nowait}
 use Rattle.rdb_account.proofs.Growth.{place-grown}
 use Rattle.line_view.specs.Held.{Held}
 use Rattle.line_steps.specs.session_jobs.Records.{Model, IsOrderly}
-use Rattle.line_store.specs.Seats.{Seat, prepared_by, given_back, writes_of, set_aside, outside, beginning, writing as seat_writing, changing, prepared, committing, rolling_back, closing, reading, dead}
+use Rattle.line_store.specs.Seats.{Seat, prepared_by, given_back, writes_of, set_aside, outside, beginning, writing as seat_writing, changing, broken, prepared, committing, rolling_back, closing, reading, copying, dead}
 use Rattle.line_store.specs.Shelves.{Shelf, Clock}
 use Rattle.line_store.specs.Calls.{Moves}
 use Rattle.line_steps.specs.lock_ties.Ties.{IsTiedTo, IsCall, needs_at, wanted_at}
@@ -93,11 +93,13 @@ prepared-writes outside = refl
 prepared-writes beginning = refl
 prepared-writes (seat_writing ws) = refl
 prepared-writes (changing ws) = refl
+prepared-writes (broken ws) = refl
 prepared-writes (prepared ws) = refl
 prepared-writes (committing ws) = refl
 prepared-writes (rolling_back ws) = refl
 prepared-writes closing = refl
 prepared-writes (reading start) = refl
+prepared-writes (copying number start) = refl
 prepared-writes (dead commits ws) = refl
 
 -- ---- time goes on first

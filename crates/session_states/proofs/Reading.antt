@@ -9,9 +9,9 @@ use Rattle.rdo_ast.specs.Tree.{Uttered}
 use Rattle.rdo_ast.specs.Views.{uttered_of}
 use Rattle.lock_tree_laws.specs.Forest.{opened_of}
 use Rattle.rdb_account.specs.Events.{Began, Said}
-use Rattle.rdb_account.specs.Places.{Opening, Place, Transaction, Line, after, begins, begun, leaves_none, is_done, is_first_refused}
+use Rattle.rdb_account.specs.Places.{Opening, Place, Transaction, Line, after, backup_of, begins, begun, leaves_none, is_done, is_first_refused}
 use Rattle.rdb_account.specs.Lawful.{got_of}
-use Rattle.rdb_account.specs.Legal.{ends_by}
+use Rattle.rdb_account.specs.Legal.{ends_by, ends_its_own}
 use Rattle.line_view.specs.Held.{Held, knows, nothing}
 use Rattle.line_view.specs.Knowledge.{Lines, IsInOrder, Agrees}
 use Rattle.line_steps.specs.session_jobs.Records.{Model, IsOrderly, IsRight}
@@ -35,16 +35,17 @@ use Rattle.session_states.specs.declared.stage.ReaderWork.TheVariants.{Due, Out}
 use Rattle.session_states.specs.declared.stage.ReaderStage.{ReaderStage}
 use Rattle.session_states.specs.declared.stage.ReaderStage.TheVariants.{Between, Working}
 use Rattle.session_states.specs.declared.stage.Phase.TheVariants.{Outside, Reading}
-use Rattle.session_states.specs.States.{reader, reader_item, session}
+use Rattle.session_states.specs.States.{copies_at, reader, reader_item, seat_of_reader, session}
 use Rattle.session_states.specs.Shared.{Shared, with_shelf}
-use Rattle.session_states.specs.Fits.{has_said, ReaderFits, ReaderStageFits}
+use Rattle.session_states.specs.Fits.{has_said, ReaderFits, ReaderStageFits, ReadsOn}
 use Rattle.session_states.specs.Steps.{Step}
 use Rattle.session_states.proofs.Basics.{at_time}
 use Rattle.session_states.proofs.Forgoing.{and-undone}
 use Rattle.session_states.proofs.Parting.{nothing-agrees, begun-needs, begins-stays}
 use Rattle.session_states.proofs.Resting.{leaves-others, rests-by, found-here, none-dead, time-later}
 use Rattle.session_states.proofs.Storing.{said-needs, said-more}
-use Rattle.session_states.proofs.ReaderStarts.{reader-stays}
+use Rattle.session_states.proofs.ReaderSeats.{copies-none, own-none, reader-sees}
+use Rattle.session_states.proofs.ReaderStarts.{reader-stays, reader-undone}
 use Rattle.store_counts.proofs.Kept.{counted-same, counted-events, counted-begins}
 use Rattle.session_states.proofs.Counting.{counted-over}
 
@@ -56,15 +57,21 @@ stays-open (Some t) spoken item reply says may = by (length t.lines == 0) spoken
     by : (a b l d : Bool) → not a ≡ b → (b || not (l && not d)) ≡ true → (a && (l && not d)) ≡ false
     by a b l d h k = grind arith
 
+none-ends : (own b : Bool) → own ≡ false → (own && b) ≡ false
+none-ends own b h = grind arith
+
+spoken-ends : (own spoken : Bool) → spoken ≡ true → (own && not spoken) ≡ false
+spoken-ends own spoken h = grind arith
+
 module _ (M : Model) (orderly : IsOrderly M) where
   -- ---- it begins
 
-  abbrev first_desk : Ground → Desk
+  abbrev pub first_desk : Ground → Desk
   first_desk g = record { known = knows nothing; writes = []; start = g.now }
 
-  pub begins-to-read : (s : ℕ) (c : Shared) (shelf : Shelf) (item : Item) (left : List Item) (total : ℕ) → begins (uttered_of item) ≡ Some ReadOnly → Moves s (seat_reading c.shelf.now) c.shelf shelf →
+  pub begins-to-read : (s : ℕ) (c : Shared) (shelf : Shelf) (item : Item) (left : List Item) (total : ℕ) → begins (uttered_of item) ≡ Some ReadOnly → backup_of (uttered_of item) ≡ None → Moves s (seat_reading c.shelf.now) c.shelf shelf →
       Step M s c (session (item ∷ left) total Outside) (with_shelf shelf c) (session left total (Reading (reader Closed nothing false (Working item Due)))) (Began s ReadOnly ∷ [])
-  begins-to-read s c shelf item left total so moves = record {
+  begins-to-read s c shelf item left total so plain moves = record {
     word = refl;
     others = record { store = moves.others; locks = λ u other. refl };
     moments = (tt, tt);
@@ -89,7 +96,7 @@ module _ (M : Model) (orderly : IsOrderly M) where
               seat = moves.mine ∙ (ap seat_reading (sym f.fits.ground.now) ∙ ap (λ (x : Desk). seat_reading x.start) (sym (desk-same s (first_desk g) g)));
               spoken = ap has_said (at-same s (Some (begun ReadOnly p.tables)) p.transaction);
               needless = ap got_of (at-same s (Some (begun ReadOnly p.tables)) p.transaction);
-              stage = begins-stays i ReadOnly so;
+              stage = (begins-stays i ReadOnly so, none-ends (ends_its_own i) true (own-none i (begins-stays i ReadOnly so) plain));
               wants = f.fits.phase.1;
             };
           };
@@ -111,24 +118,24 @@ module _ (M : Model) (orderly : IsOrderly M) where
       fits = record {
         ground = f.fits.ground;
         tied = f.fits.tied;
-        phase = record { known = f.fits.phase.known; seat = f.fits.phase.seat; spoken = f.fits.phase.spoken; needless = f.fits.phase.needless; stage = stays; wants = f.fits.phase.wants };
+        phase = record { known = f.fits.phase.known; seat = f.fits.phase.seat; spoken = f.fits.phase.spoken; needless = f.fits.phase.needless; stage = (stays, spoken-ends (ends_its_own (uttered_of item)) spoken f.fits.phase.stage); wants = f.fits.phase.wants };
       };
       counted = f.counted;
     };
   }
 
   -- its statement goes on without a lock
-  pub goes-to-read : (s : ℕ) (c : Shared) (left : List Item) (total : ℕ) (standing : Standing) (known : Held) (spoken : Bool) (x y : ReaderStage) → reader_item x ≡ reader_item y → (ReaderStageFits spoken x → ReaderStageFits spoken y) →
+  pub goes-to-read : (s : ℕ) (c : Shared) (left : List Item) (total : ℕ) (standing : Standing) (known : Held) (spoken : Bool) (x y : ReaderStage) → reader_item x ≡ reader_item y → copies_at x ≡ copies_at y → (ReaderStageFits spoken x → ReaderStageFits spoken y) →
       Step M s c (session left total (Reading (reader standing known spoken x))) c (session left total (Reading (reader standing known spoken y))) []
-  goes-to-read s c left total standing known spoken x y same fits =
+  goes-to-read s c left total standing known spoken x y same copies fits =
       rests-by M orderly s c left total (Reading (reader standing known spoken x)) (Reading (reader standing known spoken y)) (ap (λ (u : Option Uttered). reading standing u) same)
-      (λ o p g f. record { known = f.fits.phase.known; seat = f.fits.phase.seat; spoken = f.fits.phase.spoken; needless = f.fits.phase.needless; stage = fits f.fits.phase.stage; wants = f.fits.phase.wants })
+      (λ o p g f. record { known = f.fits.phase.known; seat = f.fits.phase.seat ∙ ap (λ (n : Option ℕ). seat_of_reader n (g.desk s).start) copies; spoken = f.fits.phase.spoken; needless = f.fits.phase.needless; stage = fits f.fits.phase.stage; wants = f.fits.phase.wants })
 
   -- what it lacked is read from the lines at its start
-  pub reads-more : (s : ℕ) (c : Shared) (shelf : Shelf) (left : List Item) (total : ℕ) (standing : Standing) (known new : Held) (spoken : Bool) (x y : ReaderStage) → reader_item x ≡ reader_item y → (ReaderStageFits spoken x → ReaderStageFits spoken y) →
+  pub reads-more : (s : ℕ) (c : Shared) (shelf : Shelf) (left : List Item) (total : ℕ) (standing : Standing) (known new : Held) (spoken : Bool) (x y : ReaderStage) → reader_item x ≡ reader_item y → copies_at x ≡ copies_at y → (ReaderStageFits spoken x → ReaderStageFits spoken y) →
       KeepsOthers s c.shelf shelf → shelf.now ≡ c.shelf.now → shelf.seat s ≡ c.shelf.seat s → KeepsSpace c.shelf.space shelf.space → (IsInOrder (seen_by s c.shelf) → Agrees (knows known) (seen_by s c.shelf) → Agrees (knows new) (seen_by s c.shelf)) →
       Step M s c (session left total (Reading (reader standing known spoken x))) (with_shelf shelf c) (session left total (Reading (reader standing new spoken y))) []
-  reads-more s c shelf left total standing known new spoken x y same fits others now mine space more = record {
+  reads-more s c shelf left total standing known new spoken x y same copies fits others now mine space more = record {
     word = refl;
     others = record { store = others; locks = λ u other. refl };
     moments = tt;
@@ -140,7 +147,7 @@ module _ (M : Model) (orderly : IsOrderly M) where
         let d : Desk = record { known = knows new; writes = (g.desk s).writes; start = (g.desk s).start } in
         let h : Ground = with_desk s d g in
         let k : Ground = at_time shelf.clock.time h in
-        let e : seen_by s c.shelf ≡ (g.desk s).start = ap (λ (a : Seat). seen_from a c.shelf.now) f.fits.phase.seat in
+        let e : seen_by s c.shelf ≡ (g.desk s).start = ap (λ (a : Seat). seen_from a c.shelf.now) f.fits.phase.seat ∙ reader-sees (copies_at x) (g.desk s).start c.shelf.now in
         let good : Agrees (knows new) (g.desk s).start = subst (λ (l : Lines). Agrees (knows new) l) e
         (more (subst (λ (l : Lines). IsInOrder l) (sym e) (orderly (g.desk s).start w.transaction.base w.is.stands))
         (subst (λ (l : Lines). Agrees (knows known) l) (sym e) (subst (λ u. Agrees u (g.desk s).start) f.fits.phase.known w.is.agrees))) in
@@ -156,7 +163,7 @@ module _ (M : Model) (orderly : IsOrderly M) where
             tied = f.fits.tied;
             phase = record {
               known = ap (λ (z : Desk). z.known) (desk-same s d g);
-              seat = mine ∙ (f.fits.phase.seat ∙ ap (λ (z : Desk). seat_reading z.start) (sym (desk-same s d g)));
+              seat = mine ∙ (f.fits.phase.seat ∙ (ap (λ (n : Option ℕ). seat_of_reader n (g.desk s).start) copies ∙ ap (λ (z : Desk). seat_of_reader (copies_at y) z.start) (sym (desk-same s d g))));
               spoken = f.fits.phase.spoken;
               needless = f.fits.phase.needless;
               stage = fits f.fits.phase.stage;
@@ -170,11 +177,11 @@ module _ (M : Model) (orderly : IsOrderly M) where
   -- ---- it is answered
 
   -- what is right of the session behind a line
-  line-fits : (o : Opening) (p : Place) (g : Ground) (c : Shared) (s : ℕ) (standing : Standing) (known : Held) (spoken : Bool) (stage : ReaderStage) (x : Transaction) (l : Line) → p.transaction s ≡ Some x →
+  line-fits : (o : Opening) (p : Place) (g : Ground) (c : Shared) (s : ℕ) (standing : Standing) (known : Held) (spoken : Bool) (stage : ReaderStage) (x : Transaction) (l : Line) → p.transaction s ≡ Some x → copies_at stage ≡ None →
       ReaderFits p g c s (reader standing known spoken stage) → ReaderFits (after o p (Said s l.item l.choices l.reply)) g c s (reader ReadOnly known true Between)
-  line-fits o p g c s standing known spoken stage x l is_open f = record {
+  line-fits o p g c s standing known spoken stage x l is_open none f = record {
     known = f.known;
-    seat = f.seat;
+    seat = f.seat ∙ ap (λ (n : Option ℕ). seat_of_reader n (g.desk s).start) none;
     spoken = said-more o p s x l is_open;
     needless = said-needs o p s x l is_open s ∙ f.needless;
     stage = refl;
@@ -201,11 +208,11 @@ module _ (M : Model) (orderly : IsOrderly M) where
           ground = g;
           steps = answers-reading M orderly o p g s (map uttered_of left) total standing (worked_of i r) f.here
               (subst (λ (u : List ℕ). IsRight M u standing (g.desk s).known (worked_of i r)) (sym f.word) right)
-              (stays-open (p.transaction s) spoken i r.reply f.fits.phase.spoken (reader-stays M orderly c.word p g s standing i r spoken w right f.fits.phase.spoken)) (rw f.fits.phase.stage refl);
+              (stays-open (p.transaction s) spoken i r.reply f.fits.phase.spoken (reader-stays M orderly c.word p g s standing i r spoken w right f.fits.phase.spoken f.fits.phase.stage.1)) (reader-undone M orderly c.word p g s standing i r spoken w right f.fits.phase.spoken f.fits.phase.stage);
           fits = record {
             ground = record { now = f.fits.ground.now; time = f.fits.ground.time; dead = f.fits.ground.dead };
             tied = line-tied o p c s w.transaction l w.is_open f.fits.phase.wants f.fits.tied;
-            phase = line-fits o p g c s standing known spoken (Working item Out) w.transaction l w.is_open f.fits.phase;
+            phase = line-fits o p g c s standing known spoken (Working item Out) w.transaction l w.is_open refl f.fits.phase;
           };
           counted = counted-events o p (Said s i r.choices r.reply ∷ []) c.shelf (tt, tt) f.counted;
         };
@@ -230,7 +237,7 @@ module _ (M : Model) (orderly : IsOrderly M) where
           fits = record {
             ground = record { now = f.fits.ground.now; time = f.fits.ground.time; dead = f.fits.ground.dead };
             tied = line-tied o p c s w.transaction l w.is_open f.fits.phase.wants f.fits.tied;
-            phase = line-fits o p g c s standing known spoken stage w.transaction l w.is_open f.fits.phase;
+            phase = line-fits o p g c s standing known spoken stage w.transaction l w.is_open (copies-none spoken stage i is f.fits.phase.stage may) f.fits.phase;
           };
           counted = counted-events o p (Said s i [] NoMemory ∷ []) c.shelf (tt, tt) f.counted;
         };

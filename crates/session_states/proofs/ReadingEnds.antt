@@ -40,11 +40,11 @@ use Rattle.session_states.proofs.Counting.{counted-over, counted-ended, reader-c
 use Rattle.session_states.proofs.Resting.{found-here, none-dead, time-later}
 
 -- it had no lock
-lockless : (p : Place) (c : Shared) (s : ℕ) → IsTiedTo p c.locks → needs_at p s ≡ [] → opened_of c.locks s ≡ None → RestsWith s [] c.locks c.locks
+pub lockless : (p : Place) (c : Shared) (s : ℕ) → IsTiedTo p c.locks → needs_at p s ≡ [] → opened_of c.locks s ≡ None → RestsWith s [] c.locks c.locks
 lockless p c s tied needless closed = record { others = λ u other. refl; ended = closed; needs = sym (tied.needs s) ∙ needless; trail = refl }
 
 module _ (M : Model) (orderly : IsOrderly M) where
-  abbrev last_desk : Ground → Desk
+  abbrev pub last_desk : Ground → Desk
   last_desk g = record { known = knows nothing; writes = []; start = g.now }
 
   pub reader-commits-on : (s : ℕ) (c : Shared) (shelf : Shelf) (item : Item) (left : List Item) (total : ℕ) (standing : Standing) (known : Held) (spoken : Bool) → uttered_of item ≡ said commit → Moves s seat_outside c.shelf shelf →

@@ -4,7 +4,7 @@ use Rattle.std.proofs.lemmas.Bool.{false≢true}
 use Rattle.rdo_ast.specs.declared.reply.Reply.{Reply}
 use Rattle.rdo_ast.specs.declared.reply.Standing.{Standing}
 use Rattle.rdo_ast.specs.declared.syntax.Item.{Item}
-use Rattle.rdo_ast.specs.Tree.{Uttered, said, syntax_fault, invoke, start_read_only, start_read_write, commit, rollback, finish, perform, define_field, define_relation, define_index, delete_relation, delete_index}
+use Rattle.rdo_ast.specs.Tree.{Uttered, said, syntax_fault, invoke, start_read_only, start_read_write, commit, rollback, finish, back_up, perform, define_field, define_relation, define_index, delete_relation, delete_index}
 use Rattle.rdo_ast.specs.Views.{uttered_of}
 use Rattle.rdb_meaning.specs.Checks.{Refusal}
 use Rattle.rdb_meaning.specs.Usual.{is_refusal_of_means}
@@ -67,6 +67,7 @@ asks-waits t n (said (start_read_write wait rs)) h stays = refl
 asks-waits t n (said commit) h stays = absurd (false≢true (sym stays))
 asks-waits t n (said rollback) h stays = absurd (false≢true (sym stays))
 asks-waits t n (said finish) h stays = absurd (false≢true h)
+asks-waits t n (said (back_up number)) h stays = absurd (false≢true h)
 asks-waits t n (said (perform a)) h stays = refl
 asks-waits t n (said (define_field name type)) h stays = refl
 asks-waits t n (said (define_relation name fs)) h stays = refl

@@ -19,13 +19,13 @@ use Rattle.stepped_jobs.proofs.of_kept_apart.Alike.{alike-agrees, alike-laid-all
 use Rattle.line_steps.specs.session_jobs.Records.{Model, IsOrderly, IsRight}
 use Rattle.line_steps.specs.session_jobs.Jobs.{worked_of}
 use Rattle.line_steps.specs.session_jobs.declared.jobs.TxRecord.{TxRecord}
-use Rattle.line_store.specs.Seats.{Seat, reading as seat_reading, in_flight, done_at, Adds}
+use Rattle.line_store.specs.Seats.{Seat, in_flight, done_at, Adds}
 use Rattle.line_steps.specs.lock_ties.Ties.{IsTiedTo, needs_at}
 use Rattle.line_steps.specs.Members.{Member as Seen}
 use Rattle.line_steps.specs.Right.{Desk, Ground, Stands, AreRight}
 use Rattle.line_steps.proofs.Frame.{place-same}
 use Rattle.line_steps.proofs.Kept.{stepped, here}
-use Rattle.session_states.specs.declared.stage.Laying.TheVariants.{Claiming, Changing}
+use Rattle.session_states.specs.declared.stage.Laying.TheVariants.{Claiming, Changing, Broken}
 use Rattle.session_states.specs.declared.stage.Stage.{Stage}
 use Rattle.session_states.specs.declared.stage.Stage.TheVariants.{Between, Working, Gathering, Reserving, Saying, Ending}
 use Rattle.session_states.specs.declared.stage.Phase.{Phase}
@@ -34,7 +34,7 @@ use Rattle.session_states.specs.declared.stage.Life.{Life}
 use Rattle.session_states.specs.declared.stage.Life.TheVariants.{Alive, Dead, Gone}
 use Rattle.session_states.specs.declared.stage.Member.{Member}
 use Rattle.session_states.specs.Locks.{lock_of, has_journal, HasJournal}
-use Rattle.session_states.specs.States.{seen}
+use Rattle.session_states.specs.States.{copies_at, seat_of_reader, seen}
 use Rattle.session_states.specs.Shared.{Shared, LeavesOthers}
 use Rattle.session_states.specs.Fits.{has_said, StageFits, HasSeat, IsLaid, DeskFits, WantsAtMost, PhaseFits, LifeFits}
 use Rattle.session_states.specs.Steps.{Finds, Leaves, Step, Fall}
@@ -109,6 +109,7 @@ module _ (M : Model) (orderly : IsOrderly M) where
     desk-stays standing known (Reserving item r locks place) f = plain-stays known (Reserving item r locks place) f
     desk-stays standing known (Saying item r (Claiming place)) f = plain-stays known (Saying item r (Claiming place)) f
     desk-stays standing known (Saying item r Changing) f = laid-stays standing known item r f
+    desk-stays standing known (Saying item r Broken) f = record { behind = f.behind; seat = seat ∙ f.seat }
     desk-stays standing known (Ending end) f = plain-stays known (Ending end) f
 
     pub phase-stays : (left : List Item) (x : Phase) → PhaseFits M p g c t left x → PhaseFits M q h d t left x
@@ -126,7 +127,7 @@ module _ (M : Model) (orderly : IsOrderly M) where
     }
     phase-stays left (Reading r) f = record {
       known = ap (λ (x : Desk). x.known) desk ∙ f.known;
-      seat = seat ∙ (f.seat ∙ ap (λ (x : Desk). seat_reading x.start) (sym desk));
+      seat = seat ∙ (f.seat ∙ ap (λ (x : Desk). seat_of_reader (copies_at r.stage) x.start) (sym desk));
       spoken = ap has_said same ∙ f.spoken;
       needless = sym needs ∙ f.needless;
       stage = f.stage;

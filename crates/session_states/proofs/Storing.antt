@@ -21,16 +21,16 @@ use Rattle.stepped_jobs.proofs.of_kept_apart.Alike.{laid-all-in-order}
 use Rattle.line_steps.specs.session_jobs.Records.{Model, IsOrderly, IsRight}
 use Rattle.line_steps.specs.session_jobs.Jobs.{worked_of}
 use Rattle.line_steps.specs.session_jobs.declared.jobs.TxRecord.{TxRecord}
-use Rattle.line_store.specs.Seats.{Seat, IsMember, writing as seat_writing, writes_of, done_at, Adds}
+use Rattle.line_store.specs.Seats.{Seat, IsMember, writing as seat_writing, writes_of, done_at, failed_at, Adds}
 use Rattle.line_store.specs.Shelves.{Shelf}
-use Rattle.line_store.specs.Calls.{Changes, IsDone}
+use Rattle.line_store.specs.Calls.{Changes, IsDone, Moves}
 use Rattle.line_steps.specs.lock_ties.Ties.{needs_at}
 use Rattle.line_steps.proofs.of_lock_ties.Places.{at-same, at-other, number}
 use Rattle.line_steps.proofs.of_lock_ties.Got.{ended-tied}
 use Rattle.line_steps.specs.Right.{Desk, Ground, Writes, with_desk}
 use Rattle.line_steps.proofs.Common.{desk-same}
 use Rattle.line_steps.proofs.Saying.{answers-writing}
-use Rattle.session_states.specs.declared.stage.Laying.TheVariants.{Claiming, Changing}
+use Rattle.session_states.specs.declared.stage.Laying.TheVariants.{Claiming, Changing, Broken}
 use Rattle.session_states.specs.declared.stage.Stage.TheVariants.{Saying}
 use Rattle.session_states.specs.declared.stage.Phase.TheVariants.{Writing}
 use Rattle.session_states.specs.Locks.{lock_of, lock_of_write}
@@ -43,7 +43,7 @@ use Rattle.session_states.proofs.Basics.{at_time, said-first, done-first, take-a
 use Rattle.session_states.proofs.Resting.{leaves-others, rests-on, time-later}
 use Rattle.store_counts.specs.Counts.{AreClaimed}
 use Rattle.store_counts.proofs.Kept.{counted-events, counted-changes}
-use Rattle.session_states.proofs.Counting.{counted-moved, none-more, done-aside}
+use Rattle.session_states.proofs.Counting.{counted-moved, none-more, done-aside, failed-writes, failed-aside}
 
 write-none : (x : Option Write) → lock_of_write x ≡ None → x ≡ None
 write-none None h = refl
@@ -116,6 +116,25 @@ module _ (M : Model) (orderly : IsOrderly M) where
         waits = f.fits.phase.waits;
         stage = (f.fits.phase.stage.0, may);
         wants = subst (λ l. WantsAtMost l (opened_of c.locks s)) needless f.fits.phase.wants;
+        journal = f.fits.phase.journal;
+        ends = tt;
+        claims = tt;
+      })
+
+  -- a step of the store failed as it laid them
+  pub breaks-on : (s : ℕ) (c : Shared) (shelf : Shelf) (left : List Item) (total : ℕ) (standing : Standing) (known : Held) (spoken waits : Bool) (item : Item) (r : TxRecord) → Moves s (failed_at (c.shelf.seat s)) c.shelf shelf →
+      Step M s c (session left total (Writing (writer standing known spoken waits (Saying item r Changing)))) (with_shelf shelf c) (session left total (Writing (writer standing known spoken waits (Saying item r Broken)))) []
+  breaks-on s c shelf left total standing known spoken waits item r moves =
+      rests-on M orderly s c shelf left total (Writing (writer standing known spoken waits (Saying item r Changing))) (Writing (writer standing known spoken waits (Saying item r Broken))) refl moves.others moves.now
+      (λ o p g f. counted-moved o p s (failed_at (c.shelf.seat s)) c.shelf shelf moves (λ e. failed-writes (c.shelf.seat s)) (failed-aside (c.shelf.seat s)) f.counted)
+      (λ o p g f.
+      let laid : IsLaid M p g c s standing known (uttered_of item) r = f.fits.phase.desk in
+      record {
+        desk = record { behind = laid.behind; seat = moves.mine ∙ ap failed_at laid.seat };
+        spoken = f.fits.phase.spoken;
+        waits = f.fits.phase.waits;
+        stage = f.fits.phase.stage;
+        wants = f.fits.phase.wants;
         journal = f.fits.phase.journal;
         ends = tt;
         claims = tt;

@@ -1,5 +1,5 @@
 -- What ties a stage to the account, the locks and the store.
-use Rattle.std.specs.Prelude.{◌≡◌, ◌==◌, ◌||◌, ℕ, Bool, true, false, not, List, [], take, length, Option, Some, None}
+use Rattle.std.specs.Prelude.{◌≡◌, ◌==◌, ◌||◌, ◌&&◌, ℕ, Bool, true, false, not, List, [], take, length, Option, Some, None, is_some}
 use Rattle.std.specs.List.{list_any, AllByRecursion}
 use Rattle.rdo_ast.specs.declared.reply.Standing.{Standing}
 use Rattle.rdo_ast.specs.declared.syntax.Item.{Item}
@@ -9,10 +9,10 @@ use Rattle.lock_needs.specs.declared.need.Need.{Need as LockNeed}
 use Rattle.lock_needs.specs.declared.party.OpenWant.{OpenWant}
 use Rattle.lock_tree_laws.specs.Forest.{opened_of, party_of}
 use Rattle.lock_tree_laws.specs.Wanted.{IsOf, needs_of}
-use Rattle.rdb_account.specs.Places.{Place, Transaction, is_done}
+use Rattle.rdb_account.specs.Places.{Place, Transaction, is_done, backup_of}
 use Rattle.rdb_account.specs.AskedFor.{is_need}
 use Rattle.rdb_account.specs.Lawful.{is_nowait}
-use Rattle.rdb_account.specs.Legal.{ends_by}
+use Rattle.rdb_account.specs.Legal.{ends_by, ends_its_own}
 use Rattle.line_view.specs.declared.need.Need.{Need}
 use Rattle.line_view.specs.declared.need.Need.TheVariants as need
 use Rattle.line_view.specs.declared.writes.Write.{Write}
@@ -25,7 +25,7 @@ use Rattle.line_steps.specs.session_jobs.Records.{Model, IsRight}
 use Rattle.line_steps.specs.session_jobs.Asked.{AsksFor, is_lock_for}
 use Rattle.line_steps.specs.session_jobs.Jobs.{WhereItAgrees, IsRecord, worked_of}
 use Rattle.line_steps.specs.session_jobs.declared.jobs.TxRecord.{TxRecord}
-use Rattle.line_store.specs.Seats.{Seat, outside, beginning, writing, reading, changing, prepared, committing, rolling_back, dead, done_at, Adds}
+use Rattle.line_store.specs.Seats.{Seat, outside, beginning, writing, changing, broken, prepared, committing, rolling_back, dead, done_at, Adds}
 use Rattle.line_store.specs.Shelves.{Shelf, seen_by}
 use Rattle.line_steps.specs.lock_ties.Ties.{IsTiedTo, needs_at}
 use Rattle.line_steps.specs.line_history.Transactions.{IsAskedOver}
@@ -39,12 +39,13 @@ use Rattle.session_states.specs.declared.stage.Work.TheVariants.{Opening, Lackin
 use Rattle.session_states.specs.declared.stage.Gather.{Gather}
 use Rattle.session_states.specs.declared.stage.Gather.TheVariants as gather
 use Rattle.session_states.specs.declared.stage.Laying.{Laying}
-use Rattle.session_states.specs.declared.stage.Laying.TheVariants.{Claiming, Changing}
+use Rattle.session_states.specs.declared.stage.Laying.TheVariants.{Claiming, Changing, Broken}
 use Rattle.session_states.specs.declared.stage.End.{End}
 use Rattle.session_states.specs.declared.stage.End.TheVariants.{Journal, Ready, Committing, RollingBack, Leaving}
 use Rattle.session_states.specs.declared.stage.Stage.{Stage}
 use Rattle.session_states.specs.declared.stage.Stage.TheVariants.{Between, Working, Gathering, Reserving, Saying, Ending}
 use Rattle.session_states.specs.declared.stage.Writer.{Writer}
+use Rattle.session_states.specs.declared.stage.ReaderWork.TheVariants.{Copying}
 use Rattle.session_states.specs.declared.stage.ReaderStage.{ReaderStage}
 use Rattle.session_states.specs.declared.stage.ReaderStage.TheVariants as look
 use Rattle.session_states.specs.declared.stage.Reader.{Reader}
@@ -54,7 +55,7 @@ use Rattle.session_states.specs.declared.stage.Life.{Life}
 use Rattle.session_states.specs.declared.stage.Life.TheVariants.{Alive, Dead, Gone}
 use Rattle.session_states.specs.declared.stage.Member.{Member}
 use Rattle.session_states.specs.Locks.{lock_of, has_journal, HasJournal, AreOffJournal}
-use Rattle.session_states.specs.States.{commits_in}
+use Rattle.session_states.specs.States.{commits_in, copies_at, seat_of_reader}
 use Rattle.session_states.specs.Shared.{Shared}
 
 -- ---- the statement under way
@@ -94,7 +95,7 @@ pub record ReservingFits (M : Model) (word : List ℕ) (got : List LockNeed) (st
 -- The record is right for what is known, and the lines of the writes before the place are locked. Once it is laid, its transaction stays open behind its reply.
 abbrev pub LayingFits : Model → List ℕ → List LockNeed → Standing → Uttered → Knowledge → Bool → TxRecord → Laying → Type 0
 LayingFits M word got standing item known spoken r (Claiming place) = IsRecord M word standing item known r × AreOwn got (take place r.writes)
-LayingFits M word got standing item known spoken r Changing = (spoken || is_done r.reply) ≡ true
+LayingFits M word got standing item known spoken r _ = (spoken || is_done r.reply) ≡ true
 
 -- a COMMIT that is to begin or has begun has the journal for itself
 abbrev pub EndFits : List LockNeed → End → Type 0
@@ -140,9 +141,15 @@ pub record IsLaid (M : Model) (p : Place) (g : Ground) (c : Shared) (s : ℕ) (s
   pub guarded : IsGuarded (needs_at p s) (knows known)
   pub agrees : Agrees (knows known) (laid_all behind g.now)
 
+-- A step of the store failed as it laid them: it is unknown how far they came.
+pub record IsBroken (c : Shared) (s : ℕ) : Type 0 where
+  pub behind : List Write
+  pub seat : c.shelf.seat s ≡ broken behind
+
 -- what the laws call its desk is what it knows, and what the store has of it
 abbrev pub DeskFits : Model → Place → Ground → Shared → ℕ → Standing → Held → Stage → Type 0
 DeskFits M p g c s standing known (Saying item r Changing) = IsLaid M p g c s standing known (uttered_of item) r
+DeskFits M p g c s standing known (Saying item r Broken) = IsBroken c s
 DeskFits M p g c s standing known stage = ((g.desk s).known ≡ knows known) × HasSeat stage (g.desk s).writes (c.shelf.seat s)
 
 -- ---- the locks
@@ -172,16 +179,21 @@ pub record WriterFits (M : Model) (p : Place) (g : Ground) (c : Shared) (s : ℕ
   pub ends : IsAtEnd left w.stage
   pub claims : ClaimsFit p s w.stage
 
--- a reader's statement doesn't end its transaction
+-- A reader's statement doesn't end its transaction. One that ends its own is worked where something was said before it, and is refused then.
+abbrev pub ReadsOn : Bool → Uttered → Type 0
+ReadsOn spoken item = (ends_by item ≡ false) × ((ends_its_own item && not spoken) ≡ false)
+
+-- what is copied is named by the statement that began the transaction
 abbrev pub ReaderStageFits : Bool → ReaderStage → Type 0
 ReaderStageFits spoken look.Between = spoken ≡ true
-ReaderStageFits spoken (look.Working item work) = ends_by (uttered_of item) ≡ false
-ReaderStageFits spoken (look.Gathering item n later place) = ends_by (uttered_of item) ≡ false
+ReaderStageFits spoken (look.Working item Copying) = (spoken ≡ false) × (is_some (backup_of (uttered_of item)) ≡ true)
+ReaderStageFits spoken (look.Working item work) = ReadsOn spoken (uttered_of item)
+ReaderStageFits spoken (look.Gathering item n later place) = ReadsOn spoken (uttered_of item)
 
--- a reader has no lock, and the store has it at the lines at its start
+-- a reader has no lock, and the store has it at the lines at its start, which it copies or not
 pub record ReaderFits (p : Place) (g : Ground) (c : Shared) (s : ℕ) (r : Reader) : Type 0 where
   pub known : (g.desk s).known ≡ knows r.known
-  pub seat : c.shelf.seat s ≡ reading (g.desk s).start
+  pub seat : c.shelf.seat s ≡ seat_of_reader (copies_at r.stage) (g.desk s).start
   pub spoken : has_said (p.transaction s) ≡ r.spoken
   pub needless : needs_at p s ≡ []
   pub stage : ReaderStageFits r.spoken r.stage

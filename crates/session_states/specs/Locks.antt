@@ -22,7 +22,7 @@ use Rattle.session_states.specs.declared.stage.Work.TheVariants.{Lacking, Housin
 use Rattle.session_states.specs.declared.stage.Gather.{Gather}
 use Rattle.session_states.specs.declared.stage.Gather.TheVariants as gather
 use Rattle.session_states.specs.declared.stage.Laying.{Laying}
-use Rattle.session_states.specs.declared.stage.Laying.TheVariants.{Claiming, Changing}
+use Rattle.session_states.specs.declared.stage.Laying.TheVariants.{Claiming}
 use Rattle.session_states.specs.declared.stage.End.{End}
 use Rattle.session_states.specs.declared.stage.End.TheVariants.{Journal, Ready, Committing}
 use Rattle.session_states.specs.declared.stage.Stage.{Stage}
@@ -57,7 +57,7 @@ lock_of_write None = None
 
 abbrev pub lock_of_laying : List Write → Laying → Option LockNeed
 lock_of_laying ws (Claiming place) = lock_of_write (slice_get ws place)
-lock_of_laying ws Changing = None
+lock_of_laying ws _ = None
 
 abbrev pub lock_of_end : End → Option LockNeed
 lock_of_end Journal = Some (need journal_node EX)

@@ -7,15 +7,18 @@ use Rattle.rdo_ast.specs.declared.syntax.Item.{Item}
 use Rattle.rdo_ast.specs.Tree.{Uttered, said, commit, rollback}
 use Rattle.rdo_ast.specs.Views.{uttered_of}
 use Rattle.line_view.specs.Held.{Held}
-use Rattle.rdb_account.specs.Places.{Opening as Terms}
+use Rattle.line_view.specs.Knowledge.{Lines}
+use Rattle.line_store.specs.Seats.{Seat, reading as seat_reading, copying as seat_copying}
+use Rattle.rdb_account.specs.Places.{Opening as Terms, backup_of}
 use Rattle.line_steps.specs.Members.{State, outside, writing, reading, ended, fallen, recovered, awaited, Member as Seen, member}
 use Rattle.session_states.specs.declared.stage.Work.TheVariants.{Opening}
-use Rattle.session_states.specs.declared.stage.Laying.TheVariants.{Changing}
+use Rattle.session_states.specs.declared.stage.Laying.TheVariants.{Changing, Broken}
 use Rattle.session_states.specs.declared.stage.End.{End}
 use Rattle.session_states.specs.declared.stage.End.TheVariants.{Preparing, Journal, Ready, Committing, RollingBack, Leaving}
 use Rattle.session_states.specs.declared.stage.Stage.{Stage}
 use Rattle.session_states.specs.declared.stage.Stage.TheVariants.{Between, Working, Gathering, Reserving, Saying, Ending}
 use Rattle.session_states.specs.declared.stage.Writer.{Writer}
+use Rattle.session_states.specs.declared.stage.ReaderWork.TheVariants.{Copying}
 use Rattle.session_states.specs.declared.stage.ReaderStage.{ReaderStage}
 use Rattle.session_states.specs.declared.stage.ReaderStage.TheVariants as look
 use Rattle.session_states.specs.declared.stage.Reader.{Reader}
@@ -47,10 +50,25 @@ reader_item look.Between = None
 reader_item (look.Working item work) = Some (uttered_of item)
 reader_item (look.Gathering item n later place) = Some (uttered_of item)
 
+-- the number of the backup that the store copies at this stage
+abbrev pub copies_at : ReaderStage → Option ℕ
+copies_at (look.Working item Copying) = backup_of (uttered_of item)
+copies_at stage = None
+
+abbrev pub copies_in : Phase → Option ℕ
+copies_in (Reading r) = copies_at r.stage
+copies_in x = None
+
+-- where the store has a reader with these lines at its start, which are copied into a backup or not
+abbrev pub seat_of_reader : Option ℕ → Lines → Seat
+seat_of_reader (Some number) start = seat_copying number start
+seat_of_reader None start = seat_reading start
+
 -- whether the store has nothing to do or taken at this stage
 abbrev pub is_at_rest : Stage → Bool
 is_at_rest (Working item Opening) = false
 is_at_rest (Saying item r Changing) = false
+is_at_rest (Saying item r Broken) = false
 is_at_rest (Ending Journal) = false
 is_at_rest (Ending Ready) = false
 is_at_rest (Ending Committing) = false

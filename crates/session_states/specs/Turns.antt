@@ -13,7 +13,7 @@ use Rattle.session_states.specs.declared.stage.Work.TheVariants.{Due, Lacking, H
 use Rattle.session_states.specs.declared.stage.Gather.{Gather}
 use Rattle.session_states.specs.declared.stage.Gather.TheVariants as gather
 use Rattle.session_states.specs.declared.stage.Laying.{Laying}
-use Rattle.session_states.specs.declared.stage.Laying.TheVariants.{Claiming, Changing}
+use Rattle.session_states.specs.declared.stage.Laying.TheVariants.{Claiming}
 use Rattle.session_states.specs.declared.stage.End.{End}
 use Rattle.session_states.specs.declared.stage.End.TheVariants.{Preparing, Journal, Ready, RollingBack}
 use Rattle.session_states.specs.declared.stage.Stage.{Stage}
@@ -46,7 +46,7 @@ got_gather x = x
 
 abbrev pub got_laying : Laying → Laying
 got_laying (Claiming place) = Claiming (place + 1)
-got_laying Changing = Changing
+got_laying laying = laying
 
 abbrev pub got_end : End → End
 got_end Journal = Ready
@@ -64,7 +64,7 @@ got (Ending end) = Ending (got_end end)
 -- the write whose lock is wanted is one of these
 abbrev pub IsPlace : List Write → Laying → Type 0
 IsPlace ws (Claiming place) = place < length ws
-IsPlace ws Changing = Unit {0}
+IsPlace ws _ = Unit {0}
 
 -- and of the record's, or the reservation is one of these
 abbrev pub IsWithin : Stage → Type 0

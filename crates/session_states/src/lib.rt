@@ -13,7 +13,7 @@ pub use laws::endings::{the_store_works, transactions_end};
 pub use laws::gathering::needs_are_read_in_turn;
 pub use laws::outside::statements_stand_outside;
 pub use laws::preparing::commits_are_prepared;
-pub use laws::reading::{readers_end, readers_step};
+pub use laws::reading::{readers_copy, readers_end, readers_step};
 pub use laws::refusing::{locks_are_refused, memory_is_wanting, starts_are_refused};
 pub use laws::reserving::reservations_are_locked;
 pub use laws::storing::records_are_laid_and_said;

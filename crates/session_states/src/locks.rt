@@ -128,7 +128,7 @@ fn lock_of_laying(writes: &Writes, laying: Laying) -> Option<LockNeed>
             }),
             None => None,
         },
-        Laying::Changing => None,
+        Laying::Changing | Laying::Broken => None,
     }
 }
 

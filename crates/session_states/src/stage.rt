@@ -45,6 +45,8 @@ pub enum Laying {
     Claiming(usize),
     /// The store lays the writes.
     Changing,
+    /// A step of the store failed in it: the session can only die.
+    Broken,
 }
 
 /// How a read-write transaction ends.
@@ -102,6 +104,8 @@ pub enum ReaderWork {
     Due,
     /// The job is handed out.
     Out,
+    /// It is worked by no job: the store copies the lines into the backup that the statement names. Nothing is known or said yet.
+    Copying,
 }
 
 /// How far a read-only transaction has come.

@@ -13,10 +13,10 @@ use rdo_ast::syntax::{Item, Statement};
 pub fn take_up(item: Item) -> Stage
     ensures { result ≡ taken item }
 {
-    match item {
+    match &item {
         Item::Statement(Statement::Commit) => Stage::Ending(End::Preparing),
         Item::Statement(Statement::Rollback) => Stage::Ending(End::RollingBack),
-        item => Stage::Working(item, Work::Due),
+        _ => Stage::Working(item, Work::Due),
     }
 }
 
@@ -74,7 +74,7 @@ fn laying_behind_got(laying: Laying, writes: &Writes) -> Laying
             let _count = writes.len();
             Laying::Claiming(place + 1)
         }
-        Laying::Changing => Laying::Changing,
+        laying => laying,
     }
 }
 

@@ -8,7 +8,7 @@ use Rattle.session_limits.specs.session_states.declared.stage.Work.TheVariants.{
 use Rattle.session_limits.specs.session_states.States.{is_at_rest}
 use Rattle.lock_needs.specs.declared.party.OpenWant.{OpenWant}
 use Rattle.lock_tree_laws.specs.Order.{without_asks}
-use Rattle.session_limits.specs.session_states.declared.stage.Laying.TheVariants.{Claiming, Changing}
+use Rattle.session_limits.specs.session_states.declared.stage.Laying.TheVariants.{Claiming, Changing, Broken}
 use Rattle.session_limits.specs.session_states.declared.stage.End.TheVariants.{Preparing, Journal, Ready, Committing, RollingBack, Leaving}
 use Rattle.session_limits.specs.session_states.declared.stage.Stage.{Stage}
 use Rattle.session_limits.specs.session_states.declared.stage.Stage.TheVariants.{Between, Working, Gathering, Reserving, Saying, Ending}
@@ -125,6 +125,7 @@ stands-within (Saying item worked (Claiming place)) n h =
     let w = the-write (slice_get worked.writes place) n h in
     slice_get_within worked.writes place w.0 w.1
 stands-within (Saying item worked Changing) n h = tt
+stands-within (Saying item worked Broken) n h = tt
 stands-within (Ending end) n h = tt
 
 -- where a statement wants a lock the store rests, and it hasn't got the journal
@@ -141,6 +142,7 @@ wants-at_rest (Gathering item gather later place) n of h = refl
 wants-at_rest (Reserving item r locks place) n of h = refl
 wants-at_rest (Saying item r (Claiming place)) n of h = refl
 wants-at_rest (Saying item r Changing) n of h = absurd (none-some n h)
+wants-at_rest (Saying item r Broken) n of h = absurd (none-some n h)
 wants-at_rest (Ending end) n of h = absurd of
 
 pub wants-without : (stage : Stage) (n : Need) → lock_of stage ≡ Some n → has_journal stage ≡ false

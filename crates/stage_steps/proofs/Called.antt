@@ -30,7 +30,7 @@ use Rattle.lock_ties.proofs.Answers.{conflict-lawful, deadlock-lawful}
 use Rattle.journal_waits.specs.Holders.{WantsExclusively}
 use Rattle.session_jobs.specs.Records.{Model, IsOrderly}
 use Rattle.session_limits.specs.session_states.declared.stage.Work.TheVariants.{Opening, Due, Out, Lacking, Housing, Fetching, Lodging}
-use Rattle.session_limits.specs.session_states.declared.stage.Laying.TheVariants.{Claiming, Changing}
+use Rattle.session_limits.specs.session_states.declared.stage.Laying.TheVariants.{Claiming, Changing, Broken}
 use Rattle.session_limits.specs.session_states.declared.stage.Stage.{Stage}
 use Rattle.session_limits.specs.session_states.declared.stage.Stage.TheVariants.{Between, Working, Gathering, Reserving, Saying, Ending}
 use Rattle.session_limits.specs.session_states.declared.stage.Phase.{Phase}
@@ -153,6 +153,7 @@ got-stage (Gathering item gather later place) of idle = (refl, refl, refl)
 got-stage (Reserving item r locks place) of idle = (refl, refl, refl)
 got-stage (Saying item r (Claiming place)) of idle = (refl, refl, refl)
 got-stage (Saying item r Changing) of idle = absurd (false≢true idle)
+got-stage (Saying item r Broken) of idle = absurd (false≢true idle)
 got-stage (Ending end) of idle = absurd of
 
 got-statement : (stage : Stage) → IsOfStatement stage → StatementFitsAt stage → StatementFitsAt (got stage)

@@ -6,7 +6,7 @@ use Rattle.rdb_types.specs.declared.keys.Dbkey.{Dbkey}
 use Rattle.rdo_ast.specs.declared.reply.Reply.TheVariants as r
 use Rattle.rdo_ast.specs.declared.reply.Standing.{Standing}
 use Rattle.rdo_ast.specs.declared.syntax.Item.{Item}
-use Rattle.rdo_ast.specs.Tree.{Uttered, said, syntax_fault, invoke, start_read_only, start_read_write, commit, rollback, finish, perform, define_field, define_relation, define_index, delete_relation, delete_index}
+use Rattle.rdo_ast.specs.Tree.{Uttered, said, syntax_fault, invoke, start_read_only, start_read_write, commit, rollback, finish, back_up, perform, define_field, define_relation, define_index, delete_relation, delete_index}
 use Rattle.rdo_ast.specs.Views.{uttered_of}
 use Rattle.rdb_meaning.specs.declared.tables.Tables.{Tables}
 use Rattle.rdb_meaning.specs.Checks.{Refusal}
@@ -59,6 +59,7 @@ starts-change-none (said (start_read_write wait rs)) h = refl
 starts-change-none (said commit) h = refl
 starts-change-none (said rollback) h = refl
 starts-change-none (said finish) h = refl
+starts-change-none (said (back_up n)) h = refl
 starts-change-none (said (perform a)) h = absurd (false≢true h)
 starts-change-none (said (define_field n type)) h = absurd (false≢true h)
 starts-change-none (said (define_relation n fs)) h = absurd (false≢true h)

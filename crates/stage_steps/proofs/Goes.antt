@@ -1,15 +1,16 @@
 -- From calls of the store to a step in scenes.
-use Rattle.std.proofs.Common.{◌≡◌, ◌≤◌, ℕ, List, refl, sym, ap, subst, ◌∙◌, inl, inr, arith, Bool, true, false, ◌==◌, Some}
+use Rattle.std.proofs.Common.{◌≡◌, ◌≤◌, ℕ, List, refl, sym, ap, subst, ◌∙◌, inl, inr, arith, Bool, true, false, ◌==◌, Option, Some, None}
 use Rattle.std.proofs.lemmas.Bool.{eqb-true}
 use Rattle.line_view.specs.Knowledge.{Lines}
 use Rattle.line_view.specs.Writes.{laid_all}
 use Rattle.lock_tree_laws.specs.Forest.{State, KeepsParties}
-use Rattle.line_store.specs.Seats.{Seat, outside, beginning, writing, changing, prepared, committing, rolling_back, closing, reading, dead, in_flight, prepared_by}
+use Rattle.line_store.specs.Seats.{Seat, begun, begun_by, copied_at, outside, beginning, writing, changing, broken, prepared, committing, rolling_back, closing, reading, copying, dead, in_flight, prepared_by}
 use Rattle.line_store.specs.Shelves.{Shelf}
 use Rattle.line_store.specs.declared.answers.Fault.{Fault}
 use Rattle.line_store.specs.Calls.{Moves, Fails, MayStand}
 use Rattle.line_store.specs.Sights.{Sight, Does, IsSame, bare}
-use Rattle.line_store.proofs.InTurn.{does-nothing, does-as, does-in-turn}
+use Rattle.line_store.proofs.Begun.{begun-same, copied-as}
+use Rattle.line_store.proofs.InTurn.{does-nothing, does-as, does-in-turn, does-there}
 use Rattle.session_jobs.specs.Records.{Model}
 use Rattle.session_limits.specs.session_states.declared.stage.Phase.{Phase}
 use Rattle.session_limits.specs.session_states.declared.stage.Life.{Life}
@@ -21,7 +22,7 @@ use Rattle.stage_steps.proofs.Seated.{sits-on}
 
 -- it stands where it stands
 there : (s : ℕ) (seat : Seat) (R : Shelf → Shelf → Type 0) (old new : Sight) → Does s seat R old new → Does s (new.stand s) R old new
-there s seat R old new d = record { mine = refl; others = d.others; steps = d.steps; each = d.each }
+there s seat R old new d = does-there s seat (new.stand s) R old new (sym d.mine) d
 
 module _ (s : ℕ) (x : Phase) (from : Life) (y : Phase) (to : Life) (R Q : Shelf → Shelf → Type 0) (seat : Seat) (old new : Scene) where
   -- by one call
@@ -41,7 +42,7 @@ goes-still s x from y to Q old new same lives parties nearer all = record {
 
 -- a call that failed so
 pub has-failed : (s : ℕ) (seat : Seat) (R : Shelf → Shelf → Type 0) (fault : Fault) (a b : Sight) → ((h g : Shelf) → R h g → Fails s fault h g) → Does s seat R a b → HasFailed s fault a b
-has-failed s seat R fault a b fails d = (does-as s seat R (Fails s fault) a b (λ h g shown told. fails h g) d).each
+has-failed s seat R fault a b fails d h shown = (begun (a.stand s) seat, (does-as s seat R (Fails s fault) a b (λ h g shown told. fails h g) d).each h shown)
 
 -- ---- two calls
 
@@ -57,29 +58,39 @@ still-stands s seat h m moves same lines (inr flies) = inr (flies.0, flies.1, by
 
 pub does-behind : (s : ℕ) (first end : Seat) (R Q P : Shelf → Shelf → Type 0) (seat : Shelf → Seat) (a b c : Sight) →
     ((h m : Shelf) → R h m → Moves s (seat h) h m) → ((h : Shelf) → in_flight (seat h) ≡ in_flight (h.seat s)) → ((h m g : Shelf) → R h m → Q m g → P h g) →
+    begun (a.stand s) first ≡ None → begun (b.stand s) end ≡ begun (a.stand s) end →
     Does s first R a b → Does s end Q b c → Does s end P a c
-does-behind s first end R Q P seat a b c moves same both one two = does-in-turn s first end R Q P a b c
+does-behind s first end R Q P seat a b c moves same both none alike one two = does-in-turn s first end R Q P a b c
     (λ h m is. (moves h m is).others.later.later)
     (λ h m g is next lines stands. inl (still-stands s (seat h) h m (moves h m is) (same h) lines stands))
-    both one two
+    both none alike one two
+
+-- where the first call leaves what is copied, it begins no backup, and the second begins what it would alone
+pub begins-alike : (s : ℕ) (first end : Seat) (a b : Sight) → copied_at first ≡ copied_at (a.stand s) → bare (b.stand s) ≡ bare first → (begun (a.stand s) first ≡ None) × (begun (b.stand s) end ≡ begun (a.stand s) end)
+begins-alike s first end a b same at = (
+  ap (λ (n : Option ℕ). begun_by (copied_at (a.stand s)) n) same ∙ begun-same (copied_at (a.stand s)),
+  ap (λ (n : Option ℕ). begun_by n (copied_at end)) (copied-as (b.stand s) first at ∙ same),
+)
 
 -- the first call left all as it was
-pub does-behind-none : (s : ℕ) (first end : Seat) (Q : Shelf → Shelf → Type 0) (a b c : Sight) → Does s first IsSame a b → Does s end Q b c → Does s end Q a c
-does-behind-none s first end Q a b c one two = does-in-turn s first end IsSame Q Q a b c
+pub does-behind-none : (s : ℕ) (first end : Seat) (Q : Shelf → Shelf → Type 0) (a b c : Sight) → copied_at first ≡ copied_at (a.stand s) → Does s first IsSame a b → Does s end Q b c → Does s end Q a c
+does-behind-none s first end Q a b c copies one two = let begins = begins-alike s first end a b copies one.mine in does-in-turn s first end IsSame Q Q a b c
     (λ h m is. subst (λ (k : Shelf). h.clock.time ≤ k.clock.time) (sym is) (omega arith))
     (λ h m g is next lines stands. inl (subst (λ (k : Shelf). MayStand k lines) is stands))
-    (λ h m g is next. subst (λ (k : Shelf). Q k g) is next) one two
+    (λ h m g is next. subst (λ (k : Shelf). Q k g) is next) begins.0 begins.1 one two
 
 pub prepared-flight : (seat : Seat) → in_flight (prepared_by seat) ≡ in_flight seat
 prepared-flight outside = refl
 prepared-flight beginning = refl
 prepared-flight (writing ws) = refl
 prepared-flight (changing ws) = refl
+prepared-flight (broken ws) = refl
 prepared-flight (prepared ws) = refl
 prepared-flight (committing ws) = refl
 prepared-flight (rolling_back ws) = refl
 prepared-flight closing = refl
 prepared-flight (reading start) = refl
+prepared-flight (copying number start) = refl
 prepared-flight (dead commits ws) = refl
 
 -- ---- other names
@@ -105,13 +116,13 @@ Shown a b R h m = a.shows h × b.shows m × R h m
 
 module _ (s : ℕ) (x y z : Phase) (to : Life) (word : List ℕ) (locks : State) (a b : Sight) (new : Scene) where
   pub goes-behind : {N L : Type 0} (R Q P : Shelf → Shelf → Type 0) (first : Seat) (seat : Shelf → Seat) → (bare (b.stand s) ≡ bare first → LivesAt a.stand locks s x Alive → LivesAt b.stand locks s y Alive) →
-      ((h m : Shelf) → R h m → Moves s (seat h) h m) → ((h : Shelf) → in_flight (seat h) ≡ in_flight (h.seat s)) → ((h m g : Shelf) → a.shows h → b.shows m → R h m → Q m g → P h g) →
+      ((h m : Shelf) → R h m → Moves s (seat h) h m) → ((h : Shelf) → in_flight (seat h) ≡ in_flight (h.seat s)) → copied_at first ≡ copied_at (a.stand s) → ((h m g : Shelf) → a.shows h → b.shows m → R h m → Q m g → P h g) →
       Does s first R a b → Goes s y Alive z to Q N (scene word b locks) new → L → Goes s x Alive z to P L (scene word a locks) new
-  goes-behind R Q P first seat sits moves same both one two nearer = record {
+  goes-behind R Q P first seat sits moves same copies both one two nearer = let begins = begins-alike s first (new.sight.stand s) a b copies one.mine in record {
     lives = λ f. two.lives (sits one.mine f);
     parties = two.parties;
     nearer = nearer;
-    does = does-behind s first (new.sight.stand s) (Shown a b R) Q P seat a b new.sight (λ h m r. moves h m r.2) same (λ h m g r q. both h m g r.0 r.1 r.2 q)
+    does = does-behind s first (new.sight.stand s) (Shown a b R) Q P seat a b new.sight (λ h m r. moves h m r.2) same (λ h m g r q. both h m g r.0 r.1 r.2 q) begins.0 begins.1
         (does-as s first R (Shown a b R) a b (λ h m shown told r. (shown, told, r)) one) two.does;
   }
 
@@ -121,5 +132,5 @@ goes-behind-none s x z to word locks a b new Q one two nearer = record {
   lives = λ f. two.lives (sits-on a.stand b.stand locks s x one.mine f);
   parties = two.parties;
   nearer = nearer;
-  does = does-behind-none s (a.stand s) (new.sight.stand s) Q a b new.sight one two.does;
+  does = does-behind-none s (a.stand s) (new.sight.stand s) Q a b new.sight refl one two.does;
 }

@@ -5,7 +5,9 @@ pub use Rattle.session_limits.proofs.of_session_states as of_session_states
 pub mod Seated
 pub mod Resting
 pub mod Goes
+pub mod Failing
 pub mod Stored
+pub mod Copied
 pub mod Jobs
 pub mod Tests
 pub mod Read

@@ -24,7 +24,7 @@ use Rattle.journal_waits.proofs.Notices.{no-notice}
 use Rattle.journal_waits.proofs.Askings.{got-asked, asleep-asked}
 use Rattle.line_view.specs.Held.{Held}
 use Rattle.session_limits.specs.line_steps.Images.{journal_node}
-use Rattle.line_store.specs.Seats.{Seat, IsWriting, prepared_by, given_back, outside, beginning, writing, changing, prepared, committing, rolling_back, closing, reading, dead}
+use Rattle.line_store.specs.Seats.{Seat, IsWriting, prepared_by, given_back, outside, beginning, writing, changing, broken, prepared, committing, rolling_back, closing, reading, copying, dead}
 use Rattle.line_store.specs.declared.answers.CommitStop.TheVariants.{AijFull}
 use Rattle.line_store.specs.Calls.{Moves, MayStopCommit}
 use Rattle.line_store.specs.Shelves.{Shelf}
@@ -63,11 +63,13 @@ is-writing outside h = cc
 is-writing beginning h = cc
 is-writing (writing ws) h = tt
 is-writing (changing ws) h = cc
+is-writing (broken ws) h = cc
 is-writing (prepared ws) h = cc
 is-writing (committing ws) h = cc
 is-writing (rolling_back ws) h = cc
 is-writing closing h = cc
 is-writing (reading start) h = cc
+is-writing (copying number start) h = cc
 is-writing (dead commits ws) h = cc
 
 -- where memory knows a session to write, it does so on each shelf that is shown
@@ -79,11 +81,13 @@ back-again outside h = absurd h
 back-again beginning h = absurd h
 back-again (writing ws) h = refl
 back-again (changing ws) h = absurd h
+back-again (broken ws) h = absurd h
 back-again (prepared ws) h = absurd h
 back-again (committing ws) h = absurd h
 back-again (rolling_back ws) h = absurd h
 back-again closing h = absurd h
 back-again (reading start) h = absurd h
+back-again (copying number start) h = absurd h
 back-again (dead commits ws) h = absurd h
 
 -- the seat is as it was
@@ -94,6 +98,7 @@ pub prepared-back : (s : ℕ) (a b c : Sight) → ((h : Shelf) → a.shows h →
 prepared-back s a b c writes one two = does-behind s (prepared []) (writing []) (λ h m. IsWriting (h.seat s) × Prepares s h m) (GivesBack s) (Stirs s) (λ h. prepared_by (h.seat s)) a b c
     (λ h m r. r.1) (λ h. prepared-flight (h.seat s))
     (λ h m g r q. subst (λ (seat : Seat). Moves s seat h g) (ap given_back r.1.mine ∙ back-again (h.seat s) r.0) (moves-in-turn s (prepared_by (h.seat s)) (given_back (m.seat s)) h m g r.1 q))
+    refl refl
     (does-as s (prepared []) (Prepares s) (λ h m. IsWriting (h.seat s) × Prepares s h m) a b (λ h m shown told r. (writes h shown, r)) one) two
 
 -- ---- a COMMIT comes once something was said

@@ -10,7 +10,7 @@ use Rattle.lock_ties.specs.Ties.{wanted_at}
 use Rattle.stage_steps.specs.declared.happening.Answer.{Answer}
 use Rattle.stage_steps.specs.declared.happening.Asking.{Asking}
 use Rattle.stage_steps.specs.declared.happening.Happening.{Happening}
-use Rattle.stage_steps.specs.declared.happening.Happening.TheVariants.{Quiet, Began, Answered, Unstarted, Asleep, Noticed, Got, Refused, RefusedStart, Committed, RolledBack, Left, Failed, Unlaid, Unworked, Unsound, Unanswered}
+use Rattle.stage_steps.specs.declared.happening.Happening.TheVariants.{Quiet, Began, Answered, Unstarted, Asleep, Noticed, Got, Refused, RefusedStart, Committed, BackedUp, RolledBack, Left, Failed, Unlaid, Unworked, Unsound, Unanswered}
 
 abbrev pub said_by : ℕ → Answer → Event
 said_by s a = event.Said s (uttered_of a.item) a.keys a.reply
@@ -29,6 +29,7 @@ events_of s (Got x) = asked_by s x ++ event.Got s x.need ∷ []
 events_of s (Refused x a) = asked_by s x ++ said_by s a ∷ []
 events_of s (RefusedStart x a) = asked_by s x ++ said_by s a ∷ event.RolledBack s ∷ []
 events_of s (Committed moment) = event.Committed s moment.number ∷ event.Said s (said commit) [] (Done []) ∷ []
+events_of s (BackedUp item moment) = event.Committed s moment.number ∷ event.Said s (uttered_of item) [] (Done []) ∷ []
 events_of s RolledBack = event.RolledBack s ∷ event.Said s (said rollback) [] (Done []) ∷ []
 events_of s Left = event.RolledBack s ∷ []
 events_of s (Failed fault) = []

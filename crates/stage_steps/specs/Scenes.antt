@@ -1,10 +1,11 @@
 -- What a step of a stage is where the store shows what it holds.
-use Rattle.std.specs.Prelude.{ℕ, List, [], ◌∷◌, ◌++◌}
+use Rattle.std.specs.Prelude.{◌≡◌, ◌≤◌, ℕ, List, [], ◌∷◌, ◌++◌, Option, Some}
 use Rattle.rdo_ast.specs.declared.syntax.Item.{Item}
 use Rattle.rdb_account.specs.Places.{Opening, Place}
 use Rattle.lock_tree_laws.specs.Forest.{State, KeepsParties}
 use Rattle.line_store.specs.declared.answers.Fault.{Fault}
-use Rattle.line_store.specs.Seats.{Seat}
+use Rattle.line_view.specs.Knowledge.{Lines}
+use Rattle.line_store.specs.Seats.{Seat, copying}
 use Rattle.line_store.specs.Shelves.{Shelf}
 use Rattle.line_store.specs.Calls.{Fails}
 use Rattle.line_store.specs.Sights.{Sight, Behind, Does}
@@ -21,7 +22,7 @@ use Rattle.session_stands.specs.Seated.{IsSeated, LivesAt}
 use Rattle.session_measure.specs.Weights.{Beside}
 use Rattle.session_measure.specs.Nearer.{ComesNearer}
 use Rattle.stage_steps.specs.declared.happening.Happening.{Happening}
-use Rattle.stage_steps.specs.declared.happening.Happening.TheVariants.{Failed, Unsound}
+use Rattle.stage_steps.specs.declared.happening.Happening.TheVariants.{BackedUp, Failed, Unsound}
 use Rattle.stage_steps.specs.Happenings.{events_of, handed_back}
 use Rattle.stage_steps.specs.Nearer.{Nearer}
 use Rattle.stage_steps.specs.Turns.{shared, Comes, TakesUp, Ends}
@@ -45,7 +46,13 @@ beside c = record { locks = c.locks; steps = c.sight.steps }
 
 -- a call of the store for session s failed so, and it counts where a device failed
 abbrev pub HasFailed : ℕ → Fault → Sight → Sight → Type 0
-HasFailed s fault old new = (h : Shelf) → old.shows h → Behind old new (Fails s fault) h
+HasFailed s fault old new = (h : Shelf) → old.shows h → (number : Option ℕ) × Behind old new number (Fails s fault) h
+
+-- Where s ended an online backup that it began last of its number, each image that a crash since a moment of the step might have left has it whole, of the lines that s read.
+abbrev pub BacksIn : ℕ → Happening → Sight → Sight → Type 0
+BacksIn s (BackedUp item moment) old new =
+    (h : Shelf) (number : ℕ) (start : Lines) → old.shows h → h.seat s ≡ copying number start → old.copier number ≡ Some s → (since : ℕ) × (since ≤ moment.number) × new.backed number since start
+BacksIn s e old new = Unit {0}
 
 -- over no shelf that is shown does session s find that it fits
 abbrev pub FindsNone : Model → ℕ → Scene → Member → Type 0

@@ -55,7 +55,7 @@ pub fn recover<S: Statements, L: LineStore>(
             })
         }
         Ok(Stepped::More) => Ok(Recovery::More),
-        Ok(Stepped::Done) | Ok(Stepped::Astray) | Ok(Stepped::Committed(_)) => unreachable!(),
+        Ok(Stepped::Done) | Ok(Stepped::Committed(_)) => unreachable!(),
         Err(fault) => Err(fault),
     }
 }

@@ -88,7 +88,7 @@ pub fn land<S: Statements, L: LineStore>(common: &mut Common<L>, s: Session, ter
             }
         }
         Ok(Stepped::More) => quiet(terms.at(Stage::Ending(End::Committing))),
-        Ok(Stepped::Done) | Ok(Stepped::Astray) | Ok(Stepped::Recovered { .. }) => unreachable!(),
+        Ok(Stepped::Done) | Ok(Stepped::Recovered { .. }) => unreachable!(),
         Err(fault) => failed(fault, terms.at(Stage::Ending(End::Committing))),
     }
 }

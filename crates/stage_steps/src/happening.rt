@@ -46,15 +46,17 @@ pub enum Happening {
     RefusedStart(Asking, Answer),
     /// A COMMIT was done, at this moment.
     Committed(Moment),
+    /// An online backup was done, at this moment, and its transaction has ended.
+    BackedUp(Item, Moment),
     /// A ROLLBACK was done.
     RolledBack,
     /// The transaction was rolled back at the end of the script.
     Left,
-    /// A device call failed, or a slot isn't what it has to be. The stage stands as it did.
+    /// A device call failed, or a slot isn't what it has to be. The stage stands as it did, but for a change, which is broken by that.
     Failed(Fault),
     /// The store has no place for this line, which a statement wrote. The stage stands as it did.
     Unlaid(Dbkey),
-    /// Who works statements doesn't work this one, or the store can't go on with its change. The stage stands as it did.
+    /// Who works statements doesn't work this one. The stage stands as it did.
     Unworked,
     /// The session knows what agrees with no sound database: this line is none of its kind. The stage stands with its job due.
     Unsound(Dbkey),
@@ -88,16 +90,5 @@ pub fn failed(fault: Fault, phase: Phase) -> Turned
     Turned {
         phase,
         happened: Happening::Failed(fault),
-    }
-}
-
-/// A statement isn't worked, and the phase stands.
-pub(crate) fn unworked(phase: Phase) -> Turned
-    ensures phase { result.phase ≡ phase }
-    ensures happened { result.happened ≡ Happening.Unworked }
-{
-    Turned {
-        phase,
-        happened: Happening::Unworked,
     }
 }

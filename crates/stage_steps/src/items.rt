@@ -1,7 +1,8 @@
 // What an item begins, what it ends, and its answer where no memory is found.
-ghost use Rattle.std.specs.Prelude.{◌≡◌, ◌||◌, [], not, IfOk};
+ghost use Rattle.std.specs.Prelude.{◌≡◌, ◌||◌, [], not, IfOk, IfSome};
 ghost use Rattle.rdo_ast.specs.Views.{uttered_of};
-ghost use Rattle.rdb_account.specs.Places.{begins, is_done as is_done_reply, is_writer, leaves_none as leaves_none_open};
+ghost use Rattle.rdb_account.specs.Places.{backup_of, begins, is_done as is_done_reply, is_writer, leaves_none as leaves_none_open};
+ghost use Rattle.line_store.specs.Seats.{IsBackupNumber};
 ghost use Rattle.rdb_account.specs.Lawful.{never_sleeps};
 ghost use Rattle.stage_steps.specs.Turns.{EndsAs};
 
@@ -37,6 +38,7 @@ pub fn kind_begun(alloc: Global, item: &Item) -> Result<Option<Standing>, NoMemo
 {
     match item {
         Item::Statement(Statement::StartReadOnly) => Ok(Some(Standing::ReadOnly)),
+        Item::Statement(Statement::BackUp(_)) => Ok(Some(Standing::ReadOnly)),
         Item::Statement(Statement::StartReadWrite { wait, reserved }) => {
             Ok(Some(Standing::ReadWrite {
                 wait: *wait,
@@ -50,13 +52,25 @@ pub fn kind_begun(alloc: Global, item: &Item) -> Result<Option<Standing>, NoMemo
     }
 }
 
-/// Whether an item is a START_TRANSACTION, whose refusal leaves no transaction.
+/// The number of the online backup that an item asks for.
+pub fn backed_up(item: &Item) -> Option<u32>
+    ensures asked { result ≡ backup_of (uttered_of item.now) }
+    ensures numbered { IfSome result IsBackupNumber }
+{
+    match item {
+        Item::Statement(Statement::BackUp(number)) => Some(number.get() as u32),
+        _ => None,
+    }
+}
+
+/// Whether an item is a START_TRANSACTION or an online backup, whose refusal leaves no transaction.
 pub fn leaves_none(item: &Item) -> bool
     ensures { result ≡ leaves_none_open (uttered_of item.now) }
 {
     match item {
         Item::Statement(Statement::StartReadOnly) => true,
         Item::Statement(Statement::StartReadWrite { .. }) => true,
+        Item::Statement(Statement::BackUp(_)) => true,
         _ => false,
     }
 }

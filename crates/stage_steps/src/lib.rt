@@ -5,6 +5,7 @@
 mod asks;
 mod calling;
 mod common;
+mod copying;
 mod dying;
 mod ending;
 mod fetching;
@@ -24,6 +25,7 @@ mod working;
 
 pub use asks::Asks;
 pub use common::Common;
+pub use copying::go_on_copying;
 pub use dying::{Recovery, die, recover};
 pub use ending::{commit, go_away, land, leave, prepare, roll_back};
 pub use fetching::fetch_locked;

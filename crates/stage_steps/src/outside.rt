@@ -1,7 +1,7 @@
 //! A session that has no transaction open.
 ghost use Rattle.std.specs.Prelude.{◌≡◌, ◌∷◌, ◌++◌, ℕ, List, [], true, None, Some};
 ghost use Rattle.rdo_ast.specs.Views.{uttered_of};
-ghost use Rattle.rdb_account.specs.Places.{begins, is_writer};
+ghost use Rattle.rdb_account.specs.Places.{backup_of, begins, is_writer};
 ghost use Rattle.line_store.specs.Seats.{outside, done_at, IsMember};
 ghost use Rattle.lock_tree_laws.specs.Forest.{State};
 ghost use Rattle.rdo_ast.specs.declared.syntax.Item.{Item as ItemValue};
@@ -14,8 +14,9 @@ ghost use Rattle.stage_steps.specs.Nearer.{Nearer};
 ghost use Rattle.stage_steps.specs.Scenes.{ComesIn, TakesUpIn, scene};
 ghost use Rattle.stage_steps.specs.Turns.{TakesUp};
 
+use crate::copying::begin_copying;
 use crate::happening::{Answer, Happening, Turned, failed, quiet};
-use crate::items::{is_nowait, kind_begun, refused, writes};
+use crate::items::{backed_up, is_nowait, kind_begun, refused, writes};
 use crate::storing::work_on;
 use line_store::{LineStore, Progress};
 use line_view::Known;
@@ -95,6 +96,7 @@ fn begin_reading<S: Statements, L: LineStore>(
     requires member { IsMember s.number }
     requires seat { (L.sight store.old).stand s.number ≡ outside }
     requires kind { begins (uttered_of item) ≡ Some Standing.ReadOnly }
+    requires plain { backup_of (uttered_of item) ≡ None }
     ensures begins { (word : List ℕ) (locks : State) → TakesUpIn S.stands s.number item (scene word (L.sight store.old) locks) Phase.Outside (scene word (L.sight store.new) locks) result.phase result.happened }
     ensures cause { (word : List ℕ) → IsLeftFor S.leaves word item result.happened }
 {
@@ -112,6 +114,25 @@ fn begin_reading<S: Statements, L: LineStore>(
             phase: Phase::Outside,
             happened: Happening::Answered(refused(alloc, item, Reply::NoMemory)),
         },
+    }
+}
+
+/// Begins a read-only transaction with its first item: an online backup, or what reads.
+fn begin_looking<S: Statements, L: LineStore>(
+    alloc: Global,
+    store: &mut L,
+    s: Session,
+    item: Item,
+) -> Turned
+    requires member { IsMember s.number }
+    requires seat { (L.sight store.old).stand s.number ≡ outside }
+    requires kind { begins (uttered_of item) ≡ Some Standing.ReadOnly }
+    ensures begins { (word : List ℕ) (locks : State) → TakesUpIn S.stands s.number item (scene word (L.sight store.old) locks) Phase.Outside (scene word (L.sight store.new) locks) result.phase result.happened }
+    ensures cause { (word : List ℕ) → IsLeftFor S.leaves word item result.happened }
+{
+    match backed_up(&item) {
+        Some(number) => begin_copying::<S, L>(alloc, store, s, item, number),
+        None => begin_reading::<S, L>(alloc, store, s, item),
     }
 }
 
@@ -134,7 +155,7 @@ pub fn start<S: Statements, L: LineStore>(
             if writes(&kind) {
                 begin_writing::<S, L>(alloc, store, s, item, kind)
             } else {
-                begin_reading::<S, L>(alloc, store, s, item)
+                begin_looking::<S, L>(alloc, store, s, item)
             }
         }
         Ok(None) => Turned {

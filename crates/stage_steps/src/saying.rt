@@ -6,11 +6,11 @@ ghost use Rattle.session_limits.specs.Some.{WriteSome};
 ghost use Rattle.session_limits.specs.session_states.Locks.{lock_of};
 ghost use Rattle.session_limits.specs.session_states.Turns.{said_writer};
 ghost use Rattle.lock_tree_laws.specs.Forest.{State};
-ghost use Rattle.stage_steps.specs.Scenes.{ComesIn, scene};
+ghost use Rattle.stage_steps.specs.Scenes.{ComesIn, Scene, scene};
 ghost use Rattle.stage_steps.specs.Turns.{at_stage};
 
 use crate::common::Common;
-use crate::happening::{Answer, Happening, Turned, failed, quiet, unworked};
+use crate::happening::{Answer, Happening, Turned, failed, quiet};
 use crate::items::{is_done, stands};
 use crate::limits::refuse_at_limit;
 use crate::terms::Terms;
@@ -123,7 +123,7 @@ pub fn lay<S: Statements, L: LineStore>(
     }
 }
 
-/// The store lays the writes of a record, which is said when that is done. Where it can't go on with them the statement is left unworked.
+/// The store lays the writes of a record, which is said when that is done. A step that fails breaks the change, and its session can only die.
 pub fn change<S: Statements, L: LineStore>(
     store: &mut L,
     s: Session,
@@ -138,11 +138,7 @@ pub fn change<S: Statements, L: LineStore>(
     match store.step(s) {
         Ok(Stepped::Done) => say(terms, item, worked),
         Ok(Stepped::More) => quiet(terms.at(Stage::Saying(item, worked, Laying::Changing))),
-        Ok(Stepped::Astray) => unworked(terms.at(Stage::Saying(item, worked, Laying::Changing))),
         Ok(Stepped::Committed(_)) | Ok(Stepped::Recovered { .. }) => unreachable!(),
-        Err(fault) => failed(
-            fault,
-            terms.at(Stage::Saying(item, worked, Laying::Changing)),
-        ),
+        Err(fault) => failed(fault, terms.at(Stage::Saying(item, worked, Laying::Broken))),
     }
 }

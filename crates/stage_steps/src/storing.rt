@@ -1,8 +1,8 @@
 // What the store does for a session, a step at a time.
 ghost use Rattle.std.specs.Prelude.{◌≡◌, false, true, is_some, Ok};
 ghost use Rattle.line_store.specs.Seats.{done_at, is_changing, IsMember};
-ghost use Rattle.line_store.specs.Sights.{Does, IsLess};
-ghost use Rattle.line_store.specs.declared.answers.Progress.TheVariants.{More};
+ghost use Rattle.line_store.specs.Sights.{Does, IsBackedBy, IsLess};
+ghost use Rattle.line_store.specs.declared.answers.Progress.TheVariants.{Done, More};
 ghost use Rattle.stage_steps.specs.Stores.{HasGoneOn, worked_to};
 
 use line_store::{Fault, LineStore, Progress, Stepped};
@@ -17,13 +17,12 @@ pub fn work_on<L: LineStore>(store: &mut L, s: Session) -> Result<Progress, Faul
     requires plain { is_changing ((L.sight store.old).stand s.number) ≡ false }
     ensures does { Does s.number (worked_to ((L.sight store.old).stand s.number) result) (HasGoneOn s.number result) (L.sight store.old) (L.sight store.new) }
     ensures less { result ≡ Ok More → IsLess s.number (L.sight store.old) (L.sight store.new) }
+    ensures backed { result ≡ Ok Done → IsBackedBy s.number (L.sight store.old) (L.sight store.new) }
 {
     match store.step(s) {
         Ok(Stepped::Done) => Ok(Progress::Done),
         Ok(Stepped::More) => Ok(Progress::More),
-        Ok(Stepped::Astray) | Ok(Stepped::Committed(_)) | Ok(Stepped::Recovered { .. }) => {
-            unreachable!()
-        }
+        Ok(Stepped::Committed(_)) | Ok(Stepped::Recovered { .. }) => unreachable!(),
         Err(fault) => Err(fault),
     }
 }

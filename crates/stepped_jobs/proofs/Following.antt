@@ -15,7 +15,7 @@ use Rattle.line_view.specs.Knowledge.{Lines, IsInOrder, Agrees, keys_of, laid}
 use Rattle.line_view.specs.Held.{Held, knows, nothing, ordered, with_line, with_lines, with_area}
 use Rattle.line_view.specs.Writes.{laid_all}
 use Rattle.line_view.proofs.Written.{laid_in_turn}
-use Rattle.line_store.specs.Seats.{Seat, outside, beginning, writing, changing, prepared, committing, rolling_back, closing, reading, dead, IsWriting, writes_of}
+use Rattle.line_store.specs.Seats.{Seat, outside, beginning, writing, changing, broken, prepared, committing, rolling_back, closing, reading, copying, dead, IsWriting, writes_of}
 use Rattle.line_store.specs.Shelves.{Shelf, seen_from, seen_by}
 use Rattle.line_store.specs.Calls.{Changes}
 use Rattle.line_store.specs.Sights.{bare}
@@ -73,11 +73,13 @@ is-writing (writing ws) h = tt
 is-writing outside h = absurd h
 is-writing beginning h = absurd h
 is-writing (changing ws) h = absurd h
+is-writing (broken ws) h = absurd h
 is-writing (prepared ws) h = absurd h
 is-writing (committing ws) h = absurd h
 is-writing (rolling_back ws) h = absurd h
 is-writing closing h = absurd h
 is-writing (reading start) h = absurd h
+is-writing (copying number start) h = absurd h
 is-writing (dead commits ws) h = absurd h
 
 bare-writing : (seat : Seat) → IsWriting seat → IsWriting (bare seat)

@@ -11,7 +11,7 @@ use Rattle.rdb_account.specs.Places.{Opening, Place, Transaction}
 use Rattle.rdb_account.specs.Lawful.{has_cause, is_taken, is_space_page, all_taken, file_of, written_by, journal_sum, part_of_other, sessions}
 use Rattle.line_store.specs.declared.answers.ChangeStop.TheVariants as change
 use Rattle.line_store.specs.declared.answers.CommitStop.TheVariants as commit
-use Rattle.line_store.specs.Seats.{Seat, IsMember, IsWriting, outside, beginning, writing, changing, prepared, committing, rolling_back, closing, reading, dead, writes_of, is_written, group_of, set_aside}
+use Rattle.line_store.specs.Seats.{Seat, IsMember, IsWriting, outside, beginning, writing, changing, broken, prepared, committing, rolling_back, closing, reading, copying, dead, writes_of, is_written, group_of, set_aside}
 use Rattle.line_store.specs.Shelves.{Shelf, seen_from, seen_by, set_aside_beside}
 use Rattle.line_store.specs.Rooms.{IsFull, first_line}
 use Rattle.line_store.specs.Calls.{MayStopChange, MayStopCommit}
@@ -56,11 +56,13 @@ aside-group outside = omega arith
 aside-group beginning = omega arith
 aside-group (writing ws) = omega arith
 aside-group (changing ws) = omega arith
+aside-group (broken ws) = omega arith
 aside-group (prepared ws) = omega arith
 aside-group (committing ws) = omega arith
 aside-group (rolling_back ws) = omega arith
 aside-group closing = omega arith
 aside-group (reading start) = omega arith
+aside-group (copying number start) = omega arith
 aside-group (dead true ws) = omega arith
 aside-group (dead false ws) = omega arith
 

@@ -1,6 +1,6 @@
 -- Where sessions stand, as the cases keep it.
 use Rattle.std.specs.Prelude.{◌≡◌, ℕ, true, false, List, [], None, slice_index_or}
-use Rattle.line_store.specs.Seats.{Seat, outside, beginning, writing, changing, prepared, committing, rolling_back, closing, reading, dead, IsMember, in_flight}
+use Rattle.line_store.specs.Seats.{Seat, outside, beginning, writing, changing, broken, prepared, committing, rolling_back, closing, reading, copying, dead, IsMember, in_flight}
 use Rattle.line_store.specs.Sights.{Sight, bare}
 use Rattle.store_desk.specs.declared.place.Place.{Place}
 use Rattle.store_desk.specs.declared.place.Place.TheVariants as at
@@ -11,11 +11,13 @@ seat_in at.Outside = outside
 seat_in at.Beginning = beginning
 seat_in at.Writing = writing []
 seat_in at.Changing = changing []
+seat_in at.Broken = broken []
 seat_in at.Prepared = prepared []
 seat_in at.Committing = committing []
 seat_in at.RollingBack = rolling_back []
 seat_in at.Closing = closing
 seat_in at.Reading = reading []
+seat_in (at.Copying number) = copying number []
 seat_in at.Fallen = dead false []
 seat_in at.FallenInCommit = dead true []
 

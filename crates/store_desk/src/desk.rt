@@ -96,6 +96,20 @@ impl<L: LineStore + Drop> Desk<L> {
         Answer::Done
     }
 
+    /// Begins a reader whose lines go into the backup of this number.
+    pub fn begin_copy(&mut self, s: Session, number: u32) -> Answer
+        requires { IsMember s.number }
+    {
+        if self.place(s) != Place::Outside || number < 1 || number > 9 {
+            return Answer::NotNow;
+        }
+        if self.store.begin_copy(s, number).is_err() {
+            return Answer::NoMemory;
+        }
+        self.places[s.number as usize] = Place::Copying(number);
+        Answer::Done
+    }
+
     pub fn end_reading(&mut self, s: Session) -> Answer
         requires { IsMember s.number }
     {
@@ -254,7 +268,10 @@ impl<L: LineStore + Drop> Desk<L> {
                 self.places[s.number as usize] = Place::Outside;
                 Answer::Recovered(is_committed)
             }
-            Ok(Stepped::Astray) | Err(_) => Answer::Fails,
+            Err(_) => {
+                self.places[s.number as usize] = place.failed();
+                Answer::Fails
+            }
         }
     }
 

@@ -1,6 +1,6 @@
 // Where a session stands.
 ghost use Rattle.std.specs.Prelude.{◌≡◌, true, false, None, is_some};
-ghost use Rattle.line_store.specs.Seats.{IsAtRest, IsUnderWay, IsAlive, in_flight, done_at, died};
+ghost use Rattle.line_store.specs.Seats.{IsAtRest, IsUnderWay, IsAlive, in_flight, done_at, failed_at, died};
 ghost use Rattle.line_store.specs.Sights.{bare, seat_or};
 ghost use Rattle.store_desk.specs.Places.{seat_in};
 
@@ -11,11 +11,15 @@ pub enum Place {
     Beginning,
     Writing,
     Changing,
+    /// A step of its change failed.
+    Broken,
     Prepared,
     Committing,
     RollingBack,
     Closing,
     Reading,
+    /// It reads, and copies into the backup of this number.
+    Copying(u32),
     /// It died before its commit.
     Fallen,
     /// It died in its commit.
@@ -31,7 +35,18 @@ impl Place {
         match self {
             Place::Beginning | Place::Changing => Place::Writing,
             Place::RollingBack | Place::Closing => Place::Outside,
+            Place::Copying(_) => Place::Reading,
             _ => unreachable!(),
+        }
+    }
+
+    /// The place behind a step that failed.
+    pub(crate) fn failed(self) -> Place
+        ensures { seat_in result ≡ bare (failed_at (seat_in self)) }
+    {
+        match self {
+            Place::Changing => Place::Broken,
+            place => place,
         }
     }
 
@@ -51,7 +66,7 @@ impl Place {
     {
         !matches!(
             self,
-            Place::Outside | Place::Writing | Place::Prepared | Place::Reading
+            Place::Outside | Place::Writing | Place::Broken | Place::Prepared | Place::Reading
         )
     }
 

@@ -134,6 +134,15 @@ fn say_take<L: LineStore + Drop>(rt: &HostRuntime, desk: &mut Desk<L>, s: Sessio
     put_answer(rt, answer);
 }
 
+/// Begins a reader whose lines go into the backup of a number.
+fn say_copy<L: LineStore + Drop>(rt: &HostRuntime, desk: &mut Desk<L>, s: Session, word: &str)
+    requires { IsMember s.number }
+{
+    let number = number_of(Some(word)).unwrap_or(0);
+    let answer = desk.begin_copy(s, number);
+    put_answer(rt, answer);
+}
+
 /// Makes the call that a line names, as `write 1 16:2:0 0a`.
 pub fn say<L: LineStore + Drop>(rt: &HostRuntime, desk: &mut Desk<L>, text: &str) {
     let (word, rest) = text.split_once(' ').unwrap_or((text, ""));
@@ -147,6 +156,7 @@ pub fn say<L: LineStore + Drop>(rt: &HostRuntime, desk: &mut Desk<L>, text: &str
         "write" => say_write(rt, desk, s, rest),
         "room" => say_room(rt, desk, s, rest),
         "take" => say_take(rt, desk, s, rest),
+        "copy" => say_copy(rt, desk, s, rest),
         _ => say_call(rt, desk, s, word),
     }
 }

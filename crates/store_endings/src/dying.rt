@@ -64,7 +64,8 @@ fn forgets(stage: MemberStage) -> bool
 pub fn die<D: Disk>(_disk: &D, held: &mut Held, s: Session)
     requires member { IsMember s.number }
     requires alive { IsAlive (stand_at held.old.members s.number) }
-    ensures { Does s.number (died (stand_at held.old.members s.number)) (Dies s.number) (sight_of (D.view _disk.now) held.old) (sight_of (D.view _disk.now) held.new) }
+    ensures does { Does s.number (died (stand_at held.old.members s.number)) (Dies s.number) (sight_of (D.view _disk.now) held.old) (sight_of (D.view _disk.now) held.new) }
+    ensures tables { held.new.tables ≡ held.old.tables }
 {
     held.keeps_commits();
     let member = held.member(s);

@@ -6,6 +6,7 @@ ghost use Rattle.line_store.specs.declared.answers.Stepped.TheVariants as steppe
 ghost use Rattle.disk_store.specs.declared.member.MemberStage.TheVariants as stage;
 ghost use Rattle.disk_store.specs.declared.member.Recovery.TheVariants as recovery;
 ghost use Rattle.disk_store.specs.Giving.{HasNoSlots};
+ghost use Rattle.disk_store.specs.OwnFiles.{WritesOwn};
 ghost use Rattle.disk_store.specs.Seats.{stand_at, IsAtStage};
 ghost use Rattle.disk_store.specs.Shown.{sight_of};
 
@@ -24,6 +25,10 @@ pub fn put_away<D: Disk>(disk: &mut D, held: &mut Held, s: Session) -> Result<St
         (Steps s.number result) (sight_of (D.view disk.old) held.old) (sight_of (D.view disk.new) held.new) }
     ensures slots { OnOk result (HasNoSlots s.number held.new) }
     ensures less { result ≡ Ok stepped.More → IsLess s.number (sight_of (D.view disk.old) held.old) (sight_of (D.view disk.new) held.new) }
+
+    // One slot at most is written, of the database's own files.
+    ensures writes { WritesOwn (D.view disk.old) (D.view disk.new) }
+    ensures tables { held.new.tables ≡ held.old.tables }
 {
     let Ok(()) = close(disk, s.number) else {
         return Err(Fault::Failed);
@@ -42,6 +47,10 @@ pub fn bury<D: Disk>(disk: &mut D, held: &mut Held, s: Session) -> Result<Steppe
         (Steps s.number result) (sight_of (D.view disk.old) held.old) (sight_of (D.view disk.new) held.new) }
     ensures slots { OnOk result (HasNoSlots s.number held.new) }
     ensures less { result ≡ Ok stepped.More → IsLess s.number (sight_of (D.view disk.old) held.old) (sight_of (D.view disk.new) held.new) }
+
+    // One slot at most is written, of the database's own files.
+    ensures writes { WritesOwn (D.view disk.old) (D.view disk.new) }
+    ensures tables { held.new.tables ≡ held.old.tables }
 {
     let Ok(()) = close(disk, s.number) else {
         return Err(Fault::Failed);

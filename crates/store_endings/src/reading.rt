@@ -1,4 +1,5 @@
 // A reader ends, and what only it wanted is used again.
+ghost use Rattle.std.specs.Prelude.{◌≡◌};
 ghost use Rattle.line_store.specs.Seats.{IsMember, IsReader, outside};
 ghost use Rattle.line_store.specs.Calls.{Moves};
 ghost use Rattle.line_store.specs.Sights.{Does};
@@ -18,6 +19,7 @@ pub fn end_reading<D: Disk>(disk: &D, held: &mut Held, s: Session)
 
     // What is left in use somebody wants.
     ensures slots { HasAllWanted held.new }
+    ensures tables { held.new.tables ≡ held.old.tables }
 {
     leave_reading(disk, held, s);
     held.give_unwanted(s);

@@ -5,6 +5,7 @@ ghost use Rattle.line_store.specs.Sights.{Does, Steps, stepped_to, MayAnswer, Is
 ghost use Rattle.line_store.specs.declared.answers.Stepped.TheVariants as stepped;
 ghost use Rattle.disk_store.specs.declared.member.MemberStage.TheVariants as stage;
 ghost use Rattle.disk_store.specs.declared.member.Recovery.TheVariants as recovery;
+ghost use Rattle.disk_store.specs.OwnFiles.{WritesOwn};
 ghost use Rattle.disk_store.specs.Seats.{stand_at, IsAtStage};
 ghost use Rattle.disk_store.specs.Shown.{sight_of};
 
@@ -27,6 +28,10 @@ pub fn restore<D: Disk>(
     ensures comes { Does s.number (stepped_to (stand_at held.old.members s.number) result)
         (Steps s.number result) (sight_of (D.view disk.old) held.old) (sight_of (D.view disk.new) held.new) }
     ensures less { result ≡ Ok stepped.More → IsLess s.number (sight_of (D.view disk.old) held.old) (sight_of (D.view disk.new) held.new) }
+
+    // One slot at most is written, of the database's own files.
+    ensures writes { WritesOwn (D.view disk.old) (D.view disk.new) }
+    ensures tables { held.new.tables ≡ held.old.tables }
 {
     let Ok(()) = settle(disk) else {
         return Err(Fault::Failed);

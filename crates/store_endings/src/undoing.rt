@@ -6,6 +6,7 @@ ghost use Rattle.line_store.specs.declared.answers.Stepped.TheVariants as steppe
 ghost use Rattle.disk_store.specs.declared.member.MemberStage.TheVariants as stage;
 ghost use Rattle.disk_store.specs.declared.member.Recovery.TheVariants as recovery;
 ghost use Rattle.disk_store.specs.Dying.{undoing_with};
+ghost use Rattle.disk_store.specs.OwnFiles.{WritesOwn};
 ghost use Rattle.disk_store.specs.Seats.{stand_at, IsAtStage};
 ghost use Rattle.disk_store.specs.Shown.{sight_of};
 
@@ -40,6 +41,10 @@ pub fn put_back<D: Disk>(
     ensures comes { Does s.number (stepped_to (stand_at held.old.members s.number) result)
         (Steps s.number result) (sight_of (D.view disk.old) held.old) (sight_of (D.view disk.new) held.new) }
     ensures less { result ≡ Ok stepped.More → IsLess s.number (sight_of (D.view disk.old) held.old) (sight_of (D.view disk.new) held.new) }
+
+    // One slot at most is written, of the database's own files.
+    ensures writes { WritesOwn (D.view disk.old) (D.view disk.new) }
+    ensures tables { held.new.tables ≡ held.old.tables }
 {
     if left == 0 {
         let recovery = Recovery::Restoring;

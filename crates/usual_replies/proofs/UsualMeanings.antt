@@ -11,7 +11,7 @@ use Rattle.rdo_ast.specs.declared.reply.Reply.{Reply}
 use Rattle.rdo_ast.specs.declared.reply.Reply.TheVariants as r
 use Rattle.rdo_ast.specs.declared.reply.Standing.{Standing}
 use Rattle.rdo_ast.specs.declared.reply.Standing.TheVariants.{Closed, ReadOnly, ReadWrite}
-use Rattle.rdo_ast.specs.Tree.{Name, Assignment, Act, store, for_each, print, modify, erase, Acts, no_act, act, Command, invoke, start_read_only, start_read_write, commit, rollback, finish, perform, define_field, define_relation, define_index, delete_relation, delete_index, Uttered, said, syntax_fault}
+use Rattle.rdo_ast.specs.Tree.{Name, Assignment, Act, store, for_each, print, modify, erase, Acts, no_act, act, Command, invoke, start_read_only, start_read_write, commit, rollback, finish, back_up, perform, define_field, define_relation, define_index, delete_relation, delete_index, Uttered, said, syntax_fault}
 use Rattle.rdb_meaning.specs.declared.tables.Tables.{Tables}
 use Rattle.rdb_meaning.specs.declared.scope.Binding.{Binding}
 use Rattle.rdb_meaning.specs.Contents.{Row, relation_named, fields_of, place_of, with_row, is_too_long}
@@ -159,6 +159,7 @@ usual_command word (start_read_write wait rs) s t = usual_or _ _ (usual_closed s
 usual_command word commit s t = usual_or _ _ (usual_open s) tt
 usual_command word rollback s t = usual_or _ _ (usual_open s) tt
 usual_command word finish s t = usual_or _ _ (usual_closed s) tt
+usual_command word (back_up n) s t = usual_or _ _ (usual_closed s) tt
 usual_command word (perform a) s t = usual_action a s t
 usual_command word (define_field n type) s t = usual_or _ _ (usual_standing s) (usual_none n (find chars_order n t.globals))
 usual_command word (define_relation n fs) s t = usual_or _ _ (usual_standing s) (usual_or _ _ (usual_none n (relation_named n t)) (usual_fields [] fs t))
@@ -193,6 +194,7 @@ usual_meaning word s (said (start_read_write wait rs)) choices t = usual_unless 
 usual_meaning word s (said commit) choices t = usual_unless (command_refusal word commit s t) t s choices _ (usual_command word commit s t) refl
 usual_meaning word s (said rollback) choices t = usual_unless (command_refusal word rollback s t) t s choices _ (usual_command word rollback s t) refl
 usual_meaning word s (said finish) choices t = usual_unless (command_refusal word finish s t) t s choices _ (usual_command word finish s t) refl
+usual_meaning word s (said (back_up n)) choices t = usual_unless (command_refusal word (back_up n) s t) t s choices _ (usual_command word (back_up n) s t) refl
 usual_meaning word s (said (define_field n type)) choices t = usual_unless (command_refusal word (define_field n type) s t) t s choices _ (usual_command word (define_field n type) s t) refl
 usual_meaning word s (said (define_relation n fs)) choices t = usual_unless (command_refusal word (define_relation n fs) s t) t s choices _ (usual_command word (define_relation n fs) s t) refl
 usual_meaning word s (said (define_index d)) choices t = usual_unless (command_refusal word (define_index d) s t) t s choices _ (usual_command word (define_index d) s t) refl

@@ -3,7 +3,7 @@ use Rattle.std.proofs.Common.{◌≡◌, ℕ, true, List, [], Some, None, refl, 
 use Rattle.rdo_ast.specs.declared.reply.Reply.{Reply}
 use Rattle.rdo_ast.specs.declared.reply.Reply.TheVariants as r
 use Rattle.rdo_ast.specs.declared.reply.Standing.{Standing}
-use Rattle.rdo_ast.specs.Tree.{Command, invoke, start_read_only, start_read_write, commit, rollback, finish, perform, define_field, define_relation, define_index, delete_relation, delete_index, said}
+use Rattle.rdo_ast.specs.Tree.{Command, invoke, start_read_only, start_read_write, commit, rollback, finish, back_up, perform, define_field, define_relation, define_index, delete_relation, delete_index, said}
 use Rattle.rdb_meaning.specs.declared.tables.Tables.{Tables}
 use Rattle.rdb_meaning.specs.Meaning.{meaning, unless, doing, command_refusal, after, standing_after}
 use Rattle.line_view.specs.Knowledge.{Lines}
@@ -27,6 +27,7 @@ means_so word standing (start_read_write wait rs) t is = let bad : ⊥ = cc in a
 means_so word standing commit t is = let bad : ⊥ = cc in absurd bad
 means_so word standing rollback t is = let bad : ⊥ = cc in absurd bad
 means_so word standing finish t is = let bad : ⊥ = cc in absurd bad
+means_so word standing (back_up n) t is = let bad : ⊥ = cc in absurd bad
 means_so word standing (perform a) t is = let bad : ⊥ = cc in absurd bad
 
 -- one that nothing refuses

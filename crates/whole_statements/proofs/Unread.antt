@@ -5,7 +5,7 @@ use Rattle.rdb_types.specs.declared.keys.Dbkey.{Dbkey}
 use Rattle.rdo_ast.specs.declared.reply.Reply.{Reply}
 use Rattle.rdo_ast.specs.declared.reply.Standing.{Standing}
 use Rattle.rdo_ast.specs.declared.reply.Standing.TheVariants.{Closed, ReadOnly}
-use Rattle.rdo_ast.specs.Tree.{Act, Uttered, said, syntax_fault, invoke, start_read_only, start_read_write, commit, rollback, finish, perform, define_field, define_relation, define_index, delete_relation, delete_index}
+use Rattle.rdo_ast.specs.Tree.{Act, Uttered, said, syntax_fault, invoke, start_read_only, start_read_write, commit, rollback, finish, back_up, perform, define_field, define_relation, define_index, delete_relation, delete_index}
 use Rattle.rdb_meaning.specs.declared.tables.Tables.{Tables}
 use Rattle.rdb_meaning.specs.Contents.{no_tables}
 use Rattle.rdb_meaning.specs.Checks.{Refusal, is_retrieval}
@@ -45,6 +45,7 @@ same-meaning word (said (start_read_write wait rs)) choices t u none = absurd (n
 same-meaning word (said commit) choices t u none = refl
 same-meaning word (said rollback) choices t u none = refl
 same-meaning word (said finish) choices t u none = refl
+same-meaning word (said (back_up n)) choices t u none = refl
 same-meaning word (said (perform a)) choices t u none = same-act word a choices t u (is_retrieval a) refl none
 same-meaning word (said (define_field n type)) choices t u none = refl
 same-meaning word (said (define_relation n fs)) choices t u none = refl

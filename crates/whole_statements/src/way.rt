@@ -24,7 +24,7 @@ pub(crate) fn way_of(standing: &Standing, item: &Item) -> Way
         Standing::ReadOnly => Way::Reading,
         Standing::Closed => match item {
             Item::Statement(Statement::StartReadWrite { .. }) => Way::Locking,
-            Item::Statement(Statement::StartReadOnly) => Way::Reading,
+            Item::Statement(Statement::StartReadOnly | Statement::BackUp(_)) => Way::Reading,
             Item::Statement(Statement::Act(action)) if is_retrieval(action) => Way::Reading,
             _ => Way::Unread,
         },

@@ -8,6 +8,7 @@ use Rattle.disk_seats.specs.Ledgers.{changing, Ledger, stands_as}
 use Rattle.rdb_outside.specs.Moments.{each_slot}
 use Rattle.line_store.specs.Calls.{Fails, GoesOn}
 use Rattle.line_store.specs.declared.answers.Fault.TheVariants.{Bad}
+use Rattle.line_store.specs.Seats.{failed_at}
 use Rattle.line_store.specs.Sights.{Does}
 use Rattle.disk_seats.specs.Members.{LedgerFacts}
 use Rattle.member_steps.specs.Journalling.{ledger_with}
@@ -22,6 +23,7 @@ use Rattle.disk_store.specs.ChangeSteps.{named_now, journalled_more}
 use Rattle.disk_store.proofs.Closing.{one-member}
 use Rattle.change_steps.proofs.ChangeCalls.{place-for, fewer-at}
 use Rattle.change_steps.proofs.JournalSteps.{does-name, named-fewer, does-journal, journalled-fewer, header-facts, does-unnamed, does-fault}
+use Rattle.disk_store.proofs.OwnFiles.{own-journal}
 use Rattle.change_steps.proofs.journalling.journal_key.Goals as goal
 
 behind-image : (w : View) (what : Journalled) (s : ℕ) (all : List Undo) (undo : Undo) (stable : ℕ) (g : Ledger) → what ≡ BeforeImage → LedgerFacts w (ledger_with what s all undo stable g) → LedgerFacts w (stands_as s (changing (all ++ undo ∷ []) stable) g)
@@ -50,7 +52,7 @@ returns-then-named-clause-comes g c =
     let at : m.stage ≡ stage.Changing = subst (λ (x : Member). x.stage ≡ stage.Changing) one c.requires.changes.at in
     let comes = c.set_stage.ensures.comes in
     let same : comes.0 ≡ m = one-member held.members s comes.0 m comes.1 c.member-member.ensures in
-    subst (λ (new : StoreMemory). Does s (stand_at held.members s) (λ h k. Fails s (Bad c.ruj_file.result 0) h k) (sight_of v held) (sight_of w new)) (sym (comes.2 ∙ ap (λ (x : Member). with_member s (at_stage stage.Broken x) held) same))
+    subst (λ (new : StoreMemory). Does s (failed_at (stand_at held.members s)) (λ h k. Fails s (Bad c.ruj_file.result 0) h k) (sight_of v held) (sight_of w new)) (sym (comes.2 ∙ ap (λ (x : Member). with_member s (at_stage stage.Broken x) held) same))
     (does-unnamed v w held s m c.member-member.ensures c.sound.ensures at c.journal_next.ensures.writes.0 c.journal_next.ensures.writes.1
     (λ t ledger has facts. c.journal_next.ensures.keeps t ledger has.transaction has.all has.stable facts has.stands has.is_open has.number has.count)
     c.ruj_file.result 0 c.if-named.true (λ t. c.in-Ok-Header.ensures.another (ap Ok c.in-Ok-Header.field-0-is) t))
@@ -66,7 +68,7 @@ returns-in-Err-clause-comes g c =
     let at : m.stage ≡ stage.Changing = subst (λ (x : Member). x.stage ≡ stage.Changing) one c.requires.changes.at in
     let comes = c.set_stage-in-Err.ensures.comes in
     let same : comes.0 ≡ m = one-member held.members s comes.0 m comes.1 c.member-member.ensures in
-    subst (λ (new : StoreMemory). Does s (stand_at held.members s) (λ h k. Fails s c.in-Err.fault h k) (sight_of v held) (sight_of w new)) (sym (comes.2 ∙ ap (λ (x : Member). with_member s (at_stage stage.Broken x) held) same))
+    subst (λ (new : StoreMemory). Does s (failed_at (stand_at held.members s)) (λ h k. Fails s c.in-Err.fault h k) (sight_of v held) (sight_of w new)) (sym (comes.2 ∙ ap (λ (x : Member). with_member s (at_stage stage.Broken x) held) same))
     (does-fault v w held s m c.member-member.ensures c.sound.ensures at c.journal_next.ensures.writes.0 c.journal_next.ensures.writes.1
     (λ t ledger has facts. c.journal_next.ensures.keeps t ledger has.transaction has.all has.stable facts has.stands has.is_open has.number has.count) c.in-Err.fault
     (λ e. c.in-Err.ensures.failed (ap Err e)) (λ h shown file slot e. c.in-Err.ensures.bad file slot (ap Err e) shown.tells (record { first = c.requires.member.first; last = c.requires.member.last }) shown.ledger shown.facts))
@@ -124,3 +126,15 @@ returns-else-named-clause-less g c more =
     let same : c.member-member.result.now ≡ comes.0 = same_Some _ _ (sym c.member-member.ensures ∙ comes.1) in
     fewer-at held.members c.note_named.new.self.members s comes.0 (named_now comes.0) comes.1 (ap (λ (x : StoreMemory). x.members) comes.2)
     (named-fewer comes.0 (subst (λ (x : Member). x.stage ≡ stage.Changing) one c.requires.changes.at) (subst (λ (x : Member). x.named ≡ false) same c.if-named.false))
+
+pub returns-then-named-clause-writes : goal.returns-then-named-clause-writes
+returns-then-named-clause-writes g c = let writes = c.journal_next.ensures.writes in own-journal c.args.s.number writes.0 (g.D.Disk.view c.args.disk.now) (g.D.Disk.view c.journal_next.new.disk) writes.1
+
+pub returns-in-Err-clause-writes : goal.returns-in-Err-clause-writes
+returns-in-Err-clause-writes g c = let writes = c.journal_next.ensures.writes in own-journal c.args.s.number writes.0 (g.D.Disk.view c.args.disk.now) (g.D.Disk.view c.journal_next.new.disk) writes.1
+
+pub returns-in-Ok-BeforeImage-clause-writes : goal.returns-in-Ok-BeforeImage-clause-writes
+returns-in-Ok-BeforeImage-clause-writes g c = let writes = c.journal_next.ensures.writes in own-journal c.args.s.number writes.0 (g.D.Disk.view c.args.disk.now) (g.D.Disk.view c.journal_next.new.disk) writes.1
+
+pub returns-else-named-clause-writes : goal.returns-else-named-clause-writes
+returns-else-named-clause-writes g c = let writes = c.journal_next.ensures.writes in own-journal c.args.s.number writes.0 (g.D.Disk.view c.args.disk.now) (g.D.Disk.view c.journal_next.new.disk) writes.1

@@ -1,8 +1,10 @@
-use Rattle.std.proofs.Common.{◌≡◌, IsTrue, Err, inl, inr, sym, ap, subst, ◌∙◌, arith}
+use Rattle.std.proofs.Common.{◌≡◌, ◌-◌, IsTrue, Err, inl, inr, sym, ap, subst, ◌∙◌, arith}
 use Rattle.std.proofs.lemmas.Option.{same_Some}
 use Rattle.rdb_outside.specs.Disk.{IsPending}
 use Rattle.rdb_outside.specs.Moments.{each_slot}
+use Rattle.line_versions.specs.Versions.{snap_of}
 use Rattle.line_store.specs.Calls.{Fails, GoesOn}
+use Rattle.line_store.specs.Seats.{failed_at}
 use Rattle.line_store.specs.Sights.{Does}
 use Rattle.disk_store.specs.declared.member.Member.{Member}
 use Rattle.disk_store.specs.declared.member.MemberStage.TheVariants as stage
@@ -11,6 +13,8 @@ use Rattle.disk_store.specs.Seats.{stand_at}
 use Rattle.disk_store.specs.Shown.{sight_of}
 use Rattle.change_steps.proofs.PushFaults.{does-push-fail}
 use Rattle.change_steps.proofs.NextPushed.{does-next-pass, does-next-push, next-passed-less, next-pushed-less}
+use Rattle.disk_store.specs.OwnFiles.{WritesOwn}
+use Rattle.disk_store.proofs.OwnFiles.{own-none, own-version}
 use Rattle.change_steps.proofs.pushing.push_key.Goals as goal
 
 pub returns-in-Err-clause-comes : goal.returns-in-Err-clause-comes
@@ -21,7 +25,7 @@ returns-in-Err-clause-comes g c =
     let held : StoreMemory = c.args.held.now in
     let off = c.in-Err.ensures.breaks in
     let at : off.member.stage ≡ stage.Changing = subst (λ (x : Member). x.stage ≡ stage.Changing) (same_Some c.requires.changes.member off.member (sym c.requires.changes.is ∙ off.was)) c.requires.changes.at in
-    subst (λ (new : StoreMemory). Does s (stand_at held.members s) (λ h k. Fails s c.in-Err.fault h k) (sight_of v held) (sight_of w new)) (sym off.is)
+    subst (λ (new : StoreMemory). Does s (failed_at (stand_at held.members s)) (λ h k. Fails s c.in-Err.fault h k) (sight_of v held) (sight_of w new)) (sym off.is)
     (does-push-fail v w held s off.member off.was at c.args.key off.chain off.slots off.takes c.in-Err.fault
     (λ e. c.in-Err.ensures.failed (ap Err e)) (λ h shown file slot e. c.in-Err.ensures.bad file slot (ap Err e) h shown))
 
@@ -46,4 +50,16 @@ returns-clause-less g c more =
     elim c.in_default.ensures.pushed [
       | inl pushes ↦ next-pushed-less v w c.args.held.now c.push_next.new.self c.args.s.number c.args.key c.requires.changes c.requires.next pushes
       | inr passes ↦ next-passed-less v c.args.held.now c.push_next.new.self c.args.s.number c.args.key c.requires.changes c.requires.next passes.0
+    ]
+
+pub returns-in-Err-clause-writes : goal.returns-in-Err-clause-writes
+returns-in-Err-clause-writes g c = let off = c.in-Err.ensures.breaks in own-version (snap_of c.args.key) (off.chain - 1) (g.D.Disk.view c.args.disk.now) (g.D.Disk.view c.push_next.new.disk) off.takes.writes
+
+pub returns-clause-writes : goal.returns-clause-writes
+returns-clause-writes g c =
+    let v = g.D.Disk.view c.args.disk.now in
+    let w = g.D.Disk.view c.push_next.new.disk in
+    elim c.in_default.ensures.pushed [
+      | inl pushes ↦ own-version (snap_of c.args.key) (pushes.chain - 1) v w pushes.takes.writes
+      | inr passes ↦ subst (λ d. WritesOwn v (g.D.Disk.view d)) (sym passes.1) (own-none v)
     ]

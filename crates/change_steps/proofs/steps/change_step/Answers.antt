@@ -2,6 +2,7 @@ use Rattle.std.proofs.Common.{◌≡◌, length, sym, ap, subst, ◌∙◌, arit
 use Rattle.std.proofs.lemmas.Option.{same_Some}
 use Rattle.disk_store.specs.declared.member.Member.{Member}
 use Rattle.disk_store.specs.declared.member.MemberStage.TheVariants as stage
+use Rattle.disk_store.proofs.OwnFiles.{own-none}
 use Rattle.change_steps.proofs.steps.change_step.Goals as goal
 
 pub journal_key-requires-clause-changes : goal.journal_key-requires-clause-changes
@@ -41,3 +42,6 @@ end_change-requires-clause-through g c =
       all = omega (arith, keys, c.if-journalled-count.false);
       through = omega (arith, keys, c.if-pushed-count.false);
     }
+
+pub returns-clause-writes : goal.returns-clause-writes
+returns-clause-writes g c = own-none (g.D.Disk.view c.args.disk.now)

@@ -11,8 +11,8 @@ use Rattle.disk_store.specs.Shown.{sight_of}
 use Rattle.change_steps.proofs.ChangeEnds.{does-written}
 use Rattle.change_steps.proofs.steps.end_change.Goals as goal
 
-pub returns : goal.returns
-returns g c =
+pub returns-clause-does : goal.returns-clause-does
+returns-clause-does g c =
     let v = g.D.Disk.view c.args._disk.now in
     let s = c.args.s.number in
     let held : StoreMemory = c.args.held.now in

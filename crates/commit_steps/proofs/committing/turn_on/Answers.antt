@@ -1,5 +1,7 @@
-use Rattle.std.proofs.Common.{◌≡◌, ℕ, List, length, sym, ap, subst, ◌∙◌, arith}
+use Rattle.std.proofs.Common.{◌≡◌, ◌≢◌, ◌⊎◌, ℕ, List, inl, inr, length, sym, ap, subst, true, ◌∙◌, arith}
 use Rattle.std.specs.Prelude.{slice_get}
+use Rattle.rdb_types.specs.declared.file.FileKind.{FileKind}
+use Rattle.rdb_types.specs.declared.file.FileKind.TheVariants.{Aij, Area, Root, Snap}
 use Rattle.line_moves.specs.Lines.{ChangedLines, AreDistinct}
 use Rattle.line_seat.specs.declared.commit.GroupPlace.{GroupPlace}
 use Rattle.line_seat.specs.Groups.{ArePlaced}
@@ -11,7 +13,15 @@ use Rattle.disk_store.proofs.Closing.{one-member}
 use Rattle.disk_store.proofs.Ordered.{are-distinct}
 use Rattle.commit_steps.proofs.Planning.{all-placed, all-allowed}
 use Rattle.disk_store.proofs.CommitsKept.{due-room, ready-now}
+use Rattle.disk_store.specs.OwnFiles.{is_own}
 use Rattle.commit_steps.proofs.committing.turn_on.Goals as goal
+
+-- an area file or the after-image journal
+aside-of : (kind : FileKind) → (kind ≡ Area) ⊎ (kind ≡ Aij) → (is_own kind ≡ true) × (kind ≢ Snap) × (kind ≢ Root)
+aside-of kind is = elim is [
+  | inl area ↦ (ap is_own area, (λ k. let bad : Area ≡ Snap = sym area ∙ k in cc), (λ k. let bad : Area ≡ Root = sym area ∙ k in cc))
+  | inr aij ↦ (ap is_own aij, (λ k. let bad : Aij ≡ Snap = sym aij ∙ k in cc), (λ k. let bad : Aij ≡ Root = sym aij ∙ k in cc))
+]
 
 pub commit_next-requires-clause-distinct : goal.commit_next-requires-clause-distinct
 commit_next-requires-clause-distinct g c =
@@ -58,10 +68,11 @@ returns g c m was =
     let held = c.args.held.now in
     let x : Member = c.member-member.result.now in
     let same : x ≡ m = one-member held.members c.args.s.number x m c.member-member.ensures was in
-    let writes = c.commit_next.ensures.writes in
+    let writes = c.commit_next.ensures.files in
+    let aside = aside-of writes.0.kind writes.2 in
     let made : MakesTurn v w c.args.turn c.group_of-group.result c.lines.result.now c.deref.result.now c.commit_next.result = record {
       distinct = subst AreDistinct (sym c.lines.ensures.value) (are-distinct x.written.lines (c.sound.ensures.each c.args.s.number x c.member-member.ensures).keys.ordered);
-      writes = record { file = writes.0; slot = writes.1; not_snap = writes.2; not_root = writes.3; only = writes.4 };
+      writes = record { file = writes.0; slot = writes.1; own = aside.0; not_snap = aside.1; not_root = aside.2; only = writes.3 };
       journals = c.commit_next.ensures.journals;
       failed = c.commit_next.ensures.failed;
       bad = c.commit_next.ensures.bad;

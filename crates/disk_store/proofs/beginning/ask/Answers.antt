@@ -15,6 +15,7 @@ use Rattle.disk_store.proofs.Closing.{one-member}
 use Rattle.disk_store.proofs.Failing.{does-fail}
 use Rattle.disk_store.proofs.Drawing.{does-draw}
 use Rattle.disk_store.proofs.Raising.{leads-nowhere, leads-root, may-draw, raised-before, raised-now, keeps-root, does-raise, does-refuse-now}
+use Rattle.disk_store.proofs.OwnFiles.{own-none, own-root}
 use Rattle.disk_store.proofs.beginning.ask.Goals as goal
 
 free-below : (kept all : ℕ) (inside now : Numbers) → inside ≡ now → kept ≡ all → kept < inside.ceiling - inside.next → now.next + all < now.ceiling
@@ -67,7 +68,8 @@ returns-in_default-clause-comes g c =
     let held = c.args.held.now in
     let lower = subst (λ (n : Numbers). n.written ≤ n.ceiling) (ap (λ (x : StoreMemory). x.numbers) c.held.view_is) c.if-held.false in
     let over = c.in_default.ensures.none in
-    does-refuse-now (g.D.Disk.view c.args.disk.now) held c.args.s.number c.root_file.result 0 (omega (arith, lower, over))
+    let at = c.requires.begins in
+    does-refuse-now (g.D.Disk.view c.args.disk.now) held c.args.s.number at.member at.is (λ changes. cc) c.root_file.result 0 (omega (arith, lower, over))
 
 pub returns-in_default-raise_ceiling-clause-comes : goal.returns-in_default-raise_ceiling-clause-comes
 returns-in_default-raise_ceiling-clause-comes g c =
@@ -79,7 +81,7 @@ returns-in_default-raise_ceiling-clause-comes g c =
     let root = c.in-Some.root in
     let lower = subst (λ (n : Numbers). n.written ≤ n.ceiling) (ap (λ (x : StoreMemory). x.numbers) c.held.view_is) c.if-held.false in
     does-fail v w held s at.member at.is (λ reads. cc) (keeps-root v w held root c.raise_ceiling.ensures.writes c.in-Some.ensures.higher c.in-Some.ensures.limits lower c.raise_ceiling.ensures.roots c.raise_ceiling.ensures.keeps s at.member
-    (λ tells. g.met.D.Disk.content_left c.raise_ceiling.new.disk w.moment tells (omega arith))) (c.in_default-raise_ceiling.ensures.counts.cause refl)
+    (λ tells. g.met.D.Disk.content_left c.raise_ceiling.new.disk w.moment tells (omega arith))) (λ changes. cc) (c.in_default-raise_ceiling.ensures.counts.cause refl)
 
 pub returns-clause-comes : goal.returns-clause-comes
 returns-clause-comes g c =
@@ -109,3 +111,18 @@ returns-clause-less g c more =
     let behind : steps_at c.set_raised.new.self.members s ≡ 0 = ap (λ (x : StoreMemory). steps_at x.members s) comes.2 ∙ ap steps_of (set-here held.members s next c.set_raised.ensures.within) in
     let before : steps_at held.members s ≡ 1 = ap steps_of at.is ∙ ap (λ x. steps_in x at.member) at.at in
     omega (arith, behind, before)
+
+pub returns-then-kept-free-clause-writes : goal.returns-then-kept-free-clause-writes
+returns-then-kept-free-clause-writes g c = own-none (g.D.Disk.view c.args.disk.now)
+
+pub returns-then-held-clause-writes : goal.returns-then-held-clause-writes
+returns-then-held-clause-writes g c = own-none (g.D.Disk.view c.args.disk.now)
+
+pub returns-in_default-clause-writes : goal.returns-in_default-clause-writes
+returns-in_default-clause-writes g c = own-none (g.D.Disk.view c.args.disk.now)
+
+pub returns-in_default-raise_ceiling-clause-writes : goal.returns-in_default-raise_ceiling-clause-writes
+returns-in_default-raise_ceiling-clause-writes g c = own-root 0 (g.D.Disk.view c.args.disk.now) (g.D.Disk.view c.raise_ceiling.new.disk) c.raise_ceiling.ensures.writes
+
+pub returns-clause-writes : goal.returns-clause-writes
+returns-clause-writes g c = own-root 0 (g.D.Disk.view c.args.disk.now) (g.D.Disk.view c.raise_ceiling.new.disk) c.raise_ceiling.ensures.writes

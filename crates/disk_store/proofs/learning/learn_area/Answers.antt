@@ -8,7 +8,7 @@ pub returns-in-Err-clause-not_yet : goal.returns-in-Err-clause-not_yet
 returns-in-Err-clause-not_yet g c = λ not. record { lines = []; learnt = (0, refl); seen = λ h shown. refl }
 
 pub returns-in-Err-clause-read : goal.returns-in-Err-clause-read
-returns-in-Err-clause-read g c = reads-stop (g.D.Disk.view c.args.disk.now) (g.D.Disk.view c.area_seen.new.disk) c.args.held.now c.args.s.number c.in-Err.ensures.reads c.in-Err.stop (λ is. c.in-Err.ensures.failed (ap Err is)) (λ h shown file slot is. c.in-Err.ensures.bad file slot (ap Err is) h shown)
+returns-in-Err-clause-read g c = reads-stop (g.D.Disk.view c.args.disk.now) (g.D.Disk.view c.area_seen.new.disk) c.args.held.now c.args.s.number c.in-Err.ensures.reads c.requires.seat c.in-Err.stop (λ is. c.in-Err.ensures.failed (ap Err is)) (λ h shown file slot is. c.in-Err.ensures.bad file slot (ap Err is) h shown)
 
 pub returns-in_default-clause-read : goal.returns-in_default-clause-read
 returns-in_default-clause-read g c = reads-no-memory (g.D.Disk.view c.args.disk.now) (g.D.Disk.view c.area_seen.new.disk) c.args.held.now c.args.s.number c.in-Ok.ensures.reads

@@ -11,8 +11,8 @@ use Rattle.disk_store.proofs.Moving.{does-move}
 use Rattle.disk_store.proofs.Stages.{may-begin}
 use Rattle.disk_store.proofs.moves.begin.Goals as goal
 
-pub returns : goal.returns
-returns g c =
+pub returns-clause-does : goal.returns-clause-does
+returns-clause-does g c =
     let v = g.D.Disk.view c.args._disk.now in
     let s = c.args.s.number in
     let m : Member = c.set_stage.ensures.comes.0 in

@@ -19,8 +19,8 @@ begin_commit-requires-clause-prepared g c = prepared-at c.args.held.now.members 
 pub begin_commit-requires-clause-alone : goal.begin_commit-requires-clause-alone
 begin_commit-requires-clause-alone g c t x apart is = still-at c.args.held.now.members t x is (c.requires.alone t apart)
 
-pub returns : goal.returns
-returns g c =
+pub returns-clause-does : goal.returns-clause-does
+returns-clause-does g c =
     let v = g.D.Disk.view c.args._disk.now in
     let s = c.args.s.number in
     let m : Member = c.begin_commit.ensures.comes.0 in

@@ -1,4 +1,4 @@
-use Rattle.std.proofs.Common.{⊎_elim, sym, ap, subst, ◌∙◌}
+use Rattle.std.proofs.Common.{⊎_elim, refl, sym, ap, subst, ◌∙◌}
 use Rattle.rdb_types.specs.declared.keys.Limits.{Limits}
 use Rattle.line_store.specs.Shelves.{Shelf}
 use Rattle.line_store.specs.Rooms.{Takes}
@@ -6,9 +6,12 @@ use Rattle.line_store.specs.Sights.{Does}
 use Rattle.member_rooms.specs.page_table.Pages.{Pages}
 use Rattle.member_rooms.specs.page_table.Scans.{IsNew}
 use Rattle.member_rooms.specs.Classes.{IsClassOf, HasNoOwned}
+use Rattle.disk_store.specs.declared.held.Tables.{Tables}
+use Rattle.disk_store.specs.Grown.{Grow}
 use Rattle.disk_store.specs.Memory.{StoreMemory}
 use Rattle.disk_store.specs.Seats.{stand_at}
 use Rattle.disk_store.specs.Shown.{pages_of, TablesStand, Shown, sight_of}
+use Rattle.disk_store.proofs.Growing.{grow-same, grow-taken}
 use Rattle.disk_store.proofs.Tabled.{stand-as, stand-anew}
 use Rattle.disk_store.proofs.Taking.{stays, takes-again, takes-page}
 use Rattle.disk_store.proofs.rooms.take_room.Goals as goal
@@ -47,3 +50,15 @@ returns-clause-taken g c is =
 
 pub returns-clause-members : goal.returns-clause-members
 returns-clause-members g c = ap (λ (k : StoreMemory). k.members) c.take_page.ensures.1
+
+pub returns-then-not-is_new-clause-grows : goal.returns-then-not-is_new-clause-grows
+returns-then-not-is_new-clause-grows g c = grow-same c.args.held.now.tables c.args.held.now.tables refl
+
+pub returns-clause-grows : goal.returns-clause-grows
+returns-clause-grows g c =
+    let held : StoreMemory = c.args.held.now in
+    let file = c.in-Some.file in
+    let kept = c.take_page.ensures.0 in
+    let new : IsNew (pages_of held.tables file) c.args.key.page = subst (λ (ps : Pages). IsNew ps c.args.key.page) c.table.ensures (c.is_new.ensures.yes c.if-not-is_new.false) in
+    subst (λ (t : Tables). Grow held.tables t) (sym (ap (λ (k : StoreMemory). k.tables) c.take_page.ensures.1))
+    (grow-taken held.tables kept file c.args.key.page c.args.key.area c.class_for-its.result new c.take_page.ensures.2)

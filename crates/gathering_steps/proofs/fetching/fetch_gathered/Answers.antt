@@ -8,6 +8,7 @@ use Rattle.stage_steps.proofs.of_session_states.InTurn.{steps-on}
 use Rattle.stage_steps.proofs.of_session_states.Resting.{rests-by}
 use Rattle.stage_steps.proofs.of_session_measure.Nearer.{nearer-in-round, nearer-by-steps}
 use Rattle.stage_steps.specs.Turns.{at_stage, shared}
+use Rattle.stage_steps.proofs.Failing.{plain-shown, writing-plain}
 use Rattle.stage_steps.proofs.Goes.{goes, goes-still, goes-behind, has-failed, comes-as}
 use Rattle.stage_steps.proofs.Nearer.{near-in}
 use Rattle.stage_steps.proofs.Resting.{as-before}
@@ -38,7 +39,7 @@ returns-in-Err-NoMemory g c =
     let x = at_stage c.args.terms (Gathering c.args.round.item (Reading c.args.need) c.args.round.later c.args.round.place) in
     goes-behind c.args.s.number x y _ Alive c.args.common.now.word c.args.common.now.tree _ (g.L.LineStore.sight c.fetch.new.store) _ _ _ _ _ (λ h. h.seat c.args.s.number)
     (λ e f. rests-at _ _ c.args.s.number _ (e ∙ f.seat) f.wants f.needs f.statement)
-    (λ h m r. was-forgone c.args.s.number h m _ c.in-Err-NoMemory.field-0-is r) (λ h. refl)
+    (λ h m r. was-forgone c.args.s.number h m _ c.in-Err-NoMemory.field-0-is r) (λ h. refl) refl
     (λ h m k shown told r q dead left total. steps-on g.S.Statements.stands g.met.S.Statements.orderly c.args.s.number (shared c.args.common.now.word h c.args.common.now.tree dead) (shared c.args.common.now.word m c.args.common.now.tree dead) _ (session left total x) (session left total y) _ [] _ refl tt
     (gathered-more g.S.Statements.stands g.met.S.Statements.orderly c.args.s.number (shared c.args.common.now.word h c.args.common.now.tree dead) left total c.args.terms.standing c.args.terms.known c.fetch.new.known c.args.terms.spoken c.args.terms.waits c.args.round.item m c.args.need c.args.round.later c.args.round.place (was-forgone c.args.s.number h m _ c.in-Err-NoMemory.field-0-is r) (record { agrees = c.fetch.ensures.agrees h shown; guarded = c.fetch.ensures.guarded }) c.fetch.ensures.more) (q dead left total))
     c.in-Err-NoMemory.ensures.read (c.forgo.ensures.forgoes c.args.common.now.tree (Gathering c.args.round.item (Reading c.args.need) c.args.round.later c.args.round.place) (as-before c.args.common.now.tree) refl refl) (λ left total. near-in _ c.args.s.number _ _ _ _ _ (c.forgo.ensures.nearer _ _ _ left total refl))
@@ -47,7 +48,7 @@ pub returns-in-Err-Fault : goal.returns-in-Err-Fault
 returns-in-Err-Fault g c =
     comes-as g.S.Statements.stands c.args.s.number _ _ _ _ _ _ _ (c.failed.ensures.phase ∙ c.at-in-Err-Fault-2.ensures ∙ ap (λ (x : Stage). at_stage (record { standing = c.args.terms.standing; known = c.fetch.new.known; spoken = c.args.terms.spoken; waits = c.args.terms.waits }) x) c.at-in-Err-Fault.ensures) c.failed.ensures.happened
     (goes c.args.s.number _ Alive _ Alive _ _ _ _ _ (λ e f. rests-at _ _ c.args.s.number _ (e ∙ f.seat) f.wants f.needs f.statement) (λ u other. refl) (λ left total. has-failed c.args.s.number _ _ c.in-Err-Fault.fault _ _ (λ h k r. was-failed c.args.s.number h k _ c.in-Err-Fault.fault c.in-Err-Fault.field-0-is r) c.in-Err-Fault.ensures.read)
-    (λ h k shown told r dead left total. gathered-more g.S.Statements.stands g.met.S.Statements.orderly c.args.s.number (shared c.args.common.now.word h c.args.common.now.tree dead) left total c.args.terms.standing c.args.terms.known c.fetch.new.known c.args.terms.spoken c.args.terms.waits c.args.round.item k c.args.need c.args.round.later c.args.round.place (was-fault c.args.s.number h k _ c.in-Err-Fault.fault c.in-Err-Fault.field-0-is r) (record { agrees = c.fetch.ensures.agrees h shown; guarded = c.fetch.ensures.guarded }) c.fetch.ensures.more)
+    (λ h k shown told r dead left total. gathered-more g.S.Statements.stands g.met.S.Statements.orderly c.args.s.number (shared c.args.common.now.word h c.args.common.now.tree dead) left total c.args.terms.standing c.args.terms.known c.fetch.new.known c.args.terms.spoken c.args.terms.waits c.args.round.item k c.args.need c.args.round.later c.args.round.place (was-fault c.args.s.number h k _ c.in-Err-Fault.fault (plain-shown c.args.s.number (g.L.LineStore.sight c.args.common.now.store) (g.L.LineStore.agrees c.args.common.now.store) (writing-plain _ c.requires.seat) h shown) c.in-Err-Fault.field-0-is r) (record { agrees = c.fetch.ensures.agrees h shown; guarded = c.fetch.ensures.guarded }) c.fetch.ensures.more)
     c.in-Err-Fault.ensures.read)
 
 pub returns-in-Room : goal.returns-in-Room

@@ -1,5 +1,6 @@
 use Rattle.std.proofs.Common.{◌<◌, ◌≤◌, subst}
 use Rattle.job_steps.specs.session_states.declared.stage.Laying.TheVariants.{Claiming}
+use Rattle.job_steps.specs.stage_steps.Scenes.{scene}
 use Rattle.line_arms.proofs.Asked.{laying-asked, within-asked, past-asked}
 use Rattle.line_arms.proofs.writing.go_on_saying.Goals as goal
 

@@ -19,6 +19,7 @@ returns g c = λ image lines journal word o faults begins opens named stands few
     record {
       shelf = h;
       shown = begins.shown;
+      copiers = λ n. refl;
       no_fewer = subst (λ (n : ℕ). faults ≤ n) (sym begins.shown.lines.faults) few;
       opened = λ locks parties trail. record {
         word = named;

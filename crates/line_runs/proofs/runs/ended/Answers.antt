@@ -1,3 +1,4 @@
+use Rattle.line_runs.proofs.Backups.{holds-backups}
 use Rattle.line_runs.proofs.Prefix.{harmed, holds-prefix, holds-all, spent-root}
 use Rattle.line_runs.proofs.runs.ended.Goals as goal
 
@@ -12,3 +13,6 @@ returns-clause-left g c o events it rests = holds-all _ o (g.D.Disk.view c.into_
 
 pub returns-clause-spent : goal.returns-clause-spent
 returns-clause-spent g c k = spent-root (g.D.Disk.view c.into_disk.result) _ c.into_disk.ensures k
+
+pub returns-clause-backups : goal.returns-clause-backups
+returns-clause-backups g c o events has = holds-backups _ o (g.D.Disk.view c.into_disk.result) events _ c.into_disk.ensures has

@@ -16,6 +16,9 @@ returns-in-Ok-clause-legal g c told = rw c.ended.ensures.events (c.run_in_thread
 pub returns-in-Ok-clause-images : goal.returns-in-Ok-clause-images
 returns-in-Ok-clause-images g c told opened = rw c.ended.ensures.events (c.ended.ensures.images g.O.Origin.opening (map event_of c.run_in_threads.result.events) (c.run_in_threads.ensures.images told))
 
+pub returns-in-Ok-clause-backups : goal.returns-in-Ok-clause-backups
+returns-in-Ok-clause-backups g c told opened = rw c.ended.ensures.events (c.ended.ensures.backups g.O.Origin.opening (map event_of c.run_in_threads.result.events) (c.run_in_threads.ensures.images told))
+
 pub returns-in-Ok-clause-left : goal.returns-in-Ok-clause-left
 returns-in-Ok-clause-left g c told whole =
     let ended = sym c.ended.ensures.is_whole ∙ whole in
@@ -31,6 +34,9 @@ returns-in-Err-clause-harmed g c told = rw c.unsaid.ensures.events (rw c.unsaid.
 
 pub returns-in-Err-clause-images : goal.returns-in-Err-clause-images
 returns-in-Err-clause-images g c told opened = absurd (none-some c.in-Err.unopened.fault (sym opened ∙ c.unsaid.ensures.fault))
+
+pub returns-in-Err-clause-backups : goal.returns-in-Err-clause-backups
+returns-in-Err-clause-backups g c told opened = absurd (none-some c.in-Err.unopened.fault (sym opened ∙ c.unsaid.ensures.fault))
 
 pub returns-in-Err-clause-left : goal.returns-in-Err-clause-left
 returns-in-Err-clause-left g c told whole = absurd (false≢true (sym c.unsaid.ensures.is_whole ∙ whole))

@@ -1,4 +1,4 @@
-use Rattle.line_steps.proofs.Reading.{begins-reading, takes-up-reading, learns-reading, reader-commits}
+use Rattle.line_steps.proofs.Reading.{begins-reading, takes-up-reading, learns-reading, reader-commits, reader-copies}
 use Rattle.line_steps.proofs.Saying.{answers-reading, refuses-reading}
 use Rattle.line_steps.proofs.readers.readers_step.Goals as goal
 
@@ -19,3 +19,6 @@ returns-clause-refused g c = refuses-reading g.S.Statements.stands g.met.S.State
 
 pub returns-clause-commits : goal.returns-clause-commits
 returns-clause-commits g c = reader-commits g.S.Statements.stands g.met.S.Statements.orderly
+
+pub returns-clause-copies : goal.returns-clause-copies
+returns-clause-copies g c = reader-copies g.S.Statements.stands g.met.S.Statements.orderly

@@ -1,4 +1,4 @@
-use Rattle.std.proofs.Common.{◌≡◌, ◌∙◌, ap, refl, sym, subst}
+use Rattle.std.proofs.Common.{◌≡◌, ◌∙◌, ap, inl, refl, sym, subst}
 use Rattle.rdb_types.specs.declared.file.FileKind.TheVariants.{Area, Root as RootKind, Ruj, Snap}
 use Rattle.disk_seats.specs.stable_lines.Slots.{area_file, ruj_file}
 use Rattle.disk_seats.proofs.of_line_moves.Runs.{writes_none}
@@ -99,3 +99,13 @@ returns-in-Securing-clause-journals g c = λ t member slot. (c.secure.ensures.re
 
 pub returns-in-Going-clause-journals : goal.returns-in-Going-clause-journals
 returns-in-Going-clause-journals g c = λ t member slot. c.go_further.ensures.journals t member slot
+
+pub returns-in-Entering-clause-files : goal.returns-in-Entering-clause-files
+returns-in-Entering-clause-files g c = let writes = c.enter_next.ensures.writes in (area_file writes.0, writes.1, inl refl, writes.2)
+
+pub returns-in-Securing-clause-files : goal.returns-in-Securing-clause-files
+returns-in-Securing-clause-files g c = let v = g.D.Disk.view in
+    (area_file 1, 1, inl refl, writes_none (area_file 1) 1 (v c.args.disk.now) (v c.secure.new.disk) c.secure.ensures.reads)
+
+pub returns-in-Going-clause-files : goal.returns-in-Going-clause-files
+returns-in-Going-clause-files g c = c.go_further.ensures.files

@@ -1,6 +1,6 @@
 use Rattle.std.proofs.Common.{rules}
 use Rattle.member_steps.specs.Turns.{plan_of}
-use Rattle.member_steps.proofs.JournalsStay.{journals_beside, no_journal}
+use Rattle.member_steps.proofs.JournalsStay.{area_or_journal, journals_beside, no_journal}
 use Rattle.member_steps.proofs.OwnersSaid.{goes_so}
 use Rattle.member_steps.proofs.committing.go_further.Goals as goal
 
@@ -27,3 +27,9 @@ returns-in_err-next-clause-journals g c = let v = g.D.Disk.view in let writes = 
 pub returns-clause-journals : goal.returns-clause-journals
 returns-clause-journals g c = let v = g.D.Disk.view in let writes = c.go_on.ensures.writes in λ t member slot.
     journals_beside (v c.args.disk.now) (v c.go_on.new.disk) writes.0 writes.1 t (no_journal writes.0 writes.1 writes.2) writes.3 member slot
+
+pub returns-in_err-next-clause-files : goal.returns-in_err-next-clause-files
+returns-in_err-next-clause-files g c = let writes = c.go_on.ensures.writes in (writes.0, writes.1, area_or_journal writes.0 writes.1 writes.2, writes.3)
+
+pub returns-clause-files : goal.returns-clause-files
+returns-clause-files g c = let writes = c.go_on.ensures.writes in (writes.0, writes.1, area_or_journal writes.0 writes.1 writes.2, writes.3)

@@ -19,7 +19,7 @@ use Rattle.workload_runs.proofs.Faultless.{standing-lists-none}
 use Rattle.workload_runs.proofs.Opening.{opens-has-root}
 use Rattle.rdb_top.specs.Workloads.{AreWorkloadRuns, LeavesAll, LeavesRuns}
 use Rattle.rdb_top.proofs.Givens.{same-given, same-backup, same-copy, same-restore, same-workload}
-use Rattle.rdb_top.proofs.Saying.{prefix-of-given, all-of-given}
+use Rattle.rdb_top.proofs.Saying.{prefix-of-given, backups-of-given, all-of-given}
 use Rattle.rdb_top.proofs.top.run.Goals as goal
 
 pub returns-in-Some-Rdo-clause-legal : goal.returns-in-Some-Rdo-clause-legal
@@ -58,6 +58,11 @@ pub returns-in-Some-Rdo-clause-images : goal.returns-in-Some-Rdo-clause-images
 returns-in-Some-Rdo-clause-images g c given row told tells some =
     prefix-of-given _ (g.D.Disk.view c.run_rdo.result.disk) g.O.Origin.opening (map event_of c.run_rdo.result.events) (word_of c.args.words.now) (g.S.Source.left c.args.scripts.now) c.in-Some-Rdo.given given
     (same-given c.in-Some-Rdo.given given _ (ap Some (sym c.in-Some-Rdo.field-0-is) ∙ c.in-Some-Rdo.ensures.row) row) (c.run_rdo.ensures.images told tells some)
+
+pub returns-in-Some-Rdo-clause-backups : goal.returns-in-Some-Rdo-clause-backups
+returns-in-Some-Rdo-clause-backups g c given row told tells some =
+    backups-of-given _ (g.D.Disk.view c.run_rdo.result.disk) g.O.Origin.opening (map event_of c.run_rdo.result.events) (word_of c.args.words.now) (g.S.Source.left c.args.scripts.now) c.in-Some-Rdo.given given
+    (same-given c.in-Some-Rdo.given given _ (ap Some (sym c.in-Some-Rdo.field-0-is) ∙ c.in-Some-Rdo.ensures.row) row) (c.run_rdo.ensures.backups told tells some)
 
 pub returns-in-Some-Rdo-clause-left : goal.returns-in-Some-Rdo-clause-left
 returns-in-Some-Rdo-clause-left g c given row told tells whole =

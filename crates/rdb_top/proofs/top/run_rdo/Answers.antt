@@ -10,7 +10,7 @@ use Rattle.workload_runs.specs.line_runs.Openings.{said_to}
 use Rattle.command_words.specs.Words.{word_of, order_in}
 use Rattle.rdb_top.specs.Deaths.{letting}
 use Rattle.rdb_top.specs.Runs.{scripts_of, IsWhole}
-use Rattle.rdb_top.proofs.Saying.{prefix-of-scripts, all-of-scripts}
+use Rattle.rdb_top.proofs.Saying.{prefix-of-scripts, backups-of-scripts, all-of-scripts}
 use Rattle.rdb_top.proofs.Failures.{rose-deaths, rose-stopped, rose-unopened}
 use Rattle.rdb_top.proofs.Unsaid.{is-opened, nobody-died, nothing-said, stop-is-no-end, stop-is-no-failure, stop-is-no-fault}
 use Rattle.rdb_top.proofs.Upward.{scripts-length}
@@ -100,6 +100,13 @@ returns-in-Ok-clause-images g c told tells some =
     (prefix-of-scripts _ (g.D.Disk.view c.say_scripts-ran.result.disk) g.O.Origin.opening (map event_of c.say_scripts-ran.result.events) c.args.asked.given.death (word_of c.args.asked.words.now) _ _ (c.in-Ok.ensures.items tells)
     (c.say_scripts-ran.ensures.images told opened)))
 
+pub returns-in-Ok-clause-backups : goal.returns-in-Ok-clause-backups
+returns-in-Ok-clause-backups g c told tells some =
+    let opened = is-opened c.say_scripts-ran.result.fault c.say_scripts-ran.result.events c.say_scripts-ran.ensures.unsaid (λ none. some (c.finish_scripts.ensures.events ∙ none)) in
+    rw c.finish_scripts.ensures.events (rw c.finish_scripts.ensures.disk
+    (backups-of-scripts _ (g.D.Disk.view c.say_scripts-ran.result.disk) g.O.Origin.opening (map event_of c.say_scripts-ran.result.events) c.args.asked.given.death (word_of c.args.asked.words.now) _ _ (c.in-Ok.ensures.items tells)
+    (c.say_scripts-ran.ensures.backups told opened)))
+
 pub returns-in-Ok-clause-left : goal.returns-in-Ok-clause-left
 returns-in-Ok-clause-left g c told tells whole =
     rw c.finish_scripts.ensures.events (rw c.finish_scripts.ensures.disk
@@ -108,6 +115,9 @@ returns-in-Ok-clause-left g c told tells whole =
 
 pub returns-in-Err-clause-images : goal.returns-in-Err-clause-images
 returns-in-Err-clause-images g c told tells some = absurd (some c.unsaid.ensures.events)
+
+pub returns-in-Err-clause-backups : goal.returns-in-Err-clause-backups
+returns-in-Err-clause-backups g c told tells some = absurd (some c.unsaid.ensures.events)
 
 pub returns-in-Err-clause-left : goal.returns-in-Err-clause-left
 returns-in-Err-clause-left g c told tells whole = absurd (stop-is-no-end c.in-Err.stop (subst IsWhole (c.unsaid.ensures.status ∙ c.status_of.ensures) whole))

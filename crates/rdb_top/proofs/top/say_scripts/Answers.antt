@@ -13,7 +13,7 @@ use Rattle.command_words.specs.Words.{order_in, word_of}
 use Rattle.command_words.specs.declared.deaths.Death.{Death}
 use Rattle.rdb_top.specs.Deaths.{letting, sessions_dying}
 use Rattle.rdb_top.proofs.Deaths.{may-fail, mortals}
-use Rattle.rdb_top.proofs.Saying.{opens, prefix-of-word, all-of-word}
+use Rattle.rdb_top.proofs.Saying.{opens, prefix-of-word, backups-of-word, all-of-word}
 use Rattle.rdb_top.proofs.Unsaid.{nobody-died}
 use Rattle.rdb_top.proofs.top.say_scripts.Goals as goal
 
@@ -71,11 +71,17 @@ returns-in-Ok-clause-order g c has_order told whole =
 pub returns-in-Ok-clause-images : goal.returns-in-Ok-clause-images
 returns-in-Ok-clause-images g c told opened = prefix-of-word _ (g.D.Disk.view c.run_of.result.disk) g.O.Origin.opening (map event_of c.run_of.result.events) c.args.asked.given.death _ _ c.args.scripts.items c.in-Ok.ensures.word (c.run_of.ensures.images told opened)
 
+pub returns-in-Ok-clause-backups : goal.returns-in-Ok-clause-backups
+returns-in-Ok-clause-backups g c told opened = backups-of-word _ (g.D.Disk.view c.run_of.result.disk) g.O.Origin.opening (map event_of c.run_of.result.events) c.args.asked.given.death _ _ c.args.scripts.items c.in-Ok.ensures.word (c.run_of.ensures.backups told opened)
+
 pub returns-in-Ok-clause-left : goal.returns-in-Ok-clause-left
 returns-in-Ok-clause-left g c told whole = all-of-word _ (g.D.Disk.view c.run_of.result.disk) g.O.Origin.opening (map event_of c.run_of.result.events) c.args.asked.given.death _ _ c.args.scripts.items c.in-Ok.ensures.word (c.run_of.ensures.left told whole)
 
 pub returns-in-Err-clause-images : goal.returns-in-Err-clause-images
 returns-in-Err-clause-images g c told opened = absurd (none-some _ (sym opened ∙ c.unopened.ensures.fault))
+
+pub returns-in-Err-clause-backups : goal.returns-in-Err-clause-backups
+returns-in-Err-clause-backups g c told opened = absurd (none-some _ (sym opened ∙ c.unopened.ensures.fault))
 
 pub returns-in-Err-clause-left : goal.returns-in-Err-clause-left
 returns-in-Err-clause-left g c told whole = absurd (false≢true (sym c.unopened.ensures.is_whole ∙ whole))

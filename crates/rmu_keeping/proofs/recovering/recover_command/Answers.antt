@@ -2,7 +2,7 @@ use Rattle.std.proofs.Common.{◌≡◌, inl, inr, IsErrOf, refl, sym, ◌∙◌
 use Rattle.rmu_recover.specs.declared.fault.RecoverFault.{RecoverFault}
 use Rattle.rmu_recover.specs.declared.fault.RecoverFault.TheVariants.{Failed}
 use Rattle.rmu_keeping.specs.Rolling.{rolling_status}
-use Rattle.rmu_keeping.proofs.Rolled.{gave_up, not_rolled, not_three, not_four, no_memory, one_count, one_fault, no_fault, none_given_up, failed, refused, not_both}
+use Rattle.rmu_keeping.proofs.Rolled.{gave_up, not_rolled, not_three, not_four, not_gave_up, one_count, one_fault, no_fault, none_given_up, failed, refused, not_both}
 use Rattle.rmu_keeping.proofs.recovering.recover_command.Goals as goal
 
 -- ---- carried out
@@ -21,7 +21,7 @@ returns-in-Ok-clause-tells g c = record {
   ];
   whole = λ tells zero_is. c.write_count.ensures.whole tells zero_is;
   front = λ tells six. c.write_count.ensures.front tells six;
-  nothing = λ tells gave. ap g.K.Sink.taken (c.write_count.ensures.nothing (no_memory c.write_count.result c.write_count.ensures.status gave));
+  nothing = λ tells gave. absurd (not_gave_up c.write_count.result c.write_count.ensures.status gave);
 }
 
 pub returns-in-Ok-clause-device : goal.returns-in-Ok-clause-device

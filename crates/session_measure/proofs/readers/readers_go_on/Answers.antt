@@ -6,6 +6,9 @@ use Rattle.session_measure.proofs.readers.readers_go_on.Goals as goal
 pub returns-clause-begins : goal.returns-clause-begins
 returns-clause-begins c = λ k l s c d item left total. inr (refl, inr (taken-up item left, inl (omega arith, refl)))
 
+pub returns-clause-copies : goal.returns-clause-copies
+returns-clause-copies c = λ k l s c d item left total. inr (refl, inr (taken-up item left, inl (omega arith, refl)))
+
 pub returns-clause-takes : goal.returns-clause-takes
 returns-clause-takes c = λ k l s c item left total standing known spoken. inr (refl, inr (taken-up item left, inl (omega arith, refl)))
 

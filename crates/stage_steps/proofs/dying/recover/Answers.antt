@@ -6,6 +6,7 @@ use Rattle.session_measure.proofs.Falling.{by-steps}
 use Rattle.session_measure.proofs.Nearer.{nearer-recovered}
 use Rattle.stage_steps.specs.Scenes.{beside, scene}
 use Rattle.stage_steps.specs.Turns.{shared}
+use Rattle.stage_steps.proofs.Failing.{dead-plain, fault-moves, plain-shown, still-there}
 use Rattle.stage_steps.proofs.Goes.{goes, has-failed}
 use Rattle.stage_steps.proofs.Resting.{as-before, released}
 use Rattle.stage_steps.proofs.Seated.{idle-party}
@@ -28,5 +29,7 @@ returns-in-Ok-More g c x =
 
 pub returns-in-Err : goal.returns-in-Err
 returns-in-Err g c x =
+    let plain = dead-plain _ c.requires.died in
     goes c.args.s.number x Dead x Dead _ _ _ _ _ (λ e f. falls-on _ _ _ c.args.s.number x e f) (λ u other. refl) (λ left total. has-failed c.args.s.number _ _ c.in-Err.fault _ _ (λ h k r. r) c.in-Err.ensures.comes)
-    (λ h k shown told r o dead left total. recovers-more g.S.Statements.stands g.met.S.Statements.orderly o c.args.s.number (shared c.args.common.now.word h c.args.common.now.tree dead) k left total x r.moves) c.in-Err.ensures.comes
+    (λ h k shown told r o dead left total. recovers-more g.S.Statements.stands g.met.S.Statements.orderly o c.args.s.number (shared c.args.common.now.word h c.args.common.now.tree dead) k left total x (fault-moves c.args.s.number c.in-Err.fault h k (plain-shown c.args.s.number (g.L.LineStore.sight c.args.common.now.store) (g.L.LineStore.agrees c.args.common.now.store) plain h shown) r))
+    (still-there c.args.s.number _ _ _ _ plain c.in-Err.ensures.comes)

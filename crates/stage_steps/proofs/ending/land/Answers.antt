@@ -6,6 +6,7 @@ use Rattle.session_limits.specs.session_states.declared.stage.Stage.TheVariants.
 use Rattle.session_limits.proofs.of_session_states.Ending.{committed-on}
 use Rattle.session_measure.proofs.Nearer.{nearer-answered}
 use Rattle.stage_steps.specs.Turns.{at_stage, shared}
+use Rattle.stage_steps.proofs.Failing.{commits-plain, still-there}
 use Rattle.stage_steps.proofs.Goes.{goes, comes-as}
 use Rattle.stage_steps.proofs.Resting.{as-before, released}
 use Rattle.stage_steps.proofs.Seated.{sits-closing}
@@ -27,4 +28,4 @@ returns-in-Ok-More g c =
 pub returns-in-Err : goal.returns-in-Err
 returns-in-Err g c =
     comes-as g.S.Statements.stands c.args.s.number _ _ _ _ _ _ _ (c.failed.ensures.phase ∙ c.at-in-Err.ensures) c.failed.ensures.happened
-    (on-fault g.S.Statements.stands g.met.S.Statements.orderly c.args.s.number c.args.common.now.word c.args.common.now.tree _ _ (at_stage c.args.terms (Ending Committing)) c.in-Err.fault c.in-Err.ensures.comes)
+    (on-fault g.S.Statements.stands g.met.S.Statements.orderly c.args.s.number c.args.common.now.word c.args.common.now.tree _ _ (at_stage c.args.terms (Ending Committing)) (g.L.LineStore.agrees c.args.common.now.store) (commits-plain _ c.requires.committing) c.in-Err.fault (still-there c.args.s.number _ _ _ _ (commits-plain _ c.requires.committing) c.in-Err.ensures.comes))

@@ -9,7 +9,7 @@ use Rattle.stage_steps.specs.Turns.{at_stage, shared}
 use Rattle.stage_steps.proofs.Goes.{goes, comes-as}
 use Rattle.stage_steps.proofs.Resting.{as-before, released}
 use Rattle.stage_steps.proofs.Seated.{done-away, sits-outside}
-use Rattle.stage_steps.proofs.Stored.{when-done, when-more, on-more, on-fault}
+use Rattle.stage_steps.proofs.Stored.{when-done, when-more, on-more, on-fault, undoes-plain}
 use Rattle.stage_steps.proofs.ending.roll_back.Goals as goal
 
 pub returns-in-Ok-Done : goal.returns-in-Ok-Done
@@ -27,4 +27,4 @@ returns-in-Ok-More g c =
 pub returns-in-Err : goal.returns-in-Err
 returns-in-Err g c =
     comes-as g.S.Statements.stands c.args.s.number _ _ _ _ _ _ _ (c.failed.ensures.phase ∙ c.at-in-Err.ensures) c.failed.ensures.happened
-    (on-fault g.S.Statements.stands g.met.S.Statements.orderly c.args.s.number c.args.common.now.word c.args.common.now.tree _ _ (at_stage c.args.terms (Ending RollingBack)) c.in-Err.fault c.in-Err.ensures.does)
+    (on-fault g.S.Statements.stands g.met.S.Statements.orderly c.args.s.number c.args.common.now.word c.args.common.now.tree _ _ (at_stage c.args.terms (Ending RollingBack)) (g.L.LineStore.agrees c.args.common.now.store) (undoes-plain _ c.requires.rolling_back) c.in-Err.fault c.in-Err.ensures.does)

@@ -6,7 +6,7 @@ use Rattle.session_measure.proofs.Nearer.{nearer-by-rank}
 use Rattle.stage_steps.specs.Turns.{shared}
 use Rattle.stage_steps.proofs.Goes.{goes, comes-as}
 use Rattle.stage_steps.proofs.Seated.{sits-away}
-use Rattle.stage_steps.proofs.Stored.{when-done, when-more, on-more, on-fault}
+use Rattle.stage_steps.proofs.Stored.{when-done, when-more, on-more, on-fault, undoes-plain}
 use Rattle.stage_steps.proofs.outside.put_away.Goals as goal
 
 pub returns-in-Ok-Done : goal.returns-in-Ok-Done
@@ -23,4 +23,4 @@ returns-in-Ok-More g c word locks =
 
 pub returns-in-Err : goal.returns-in-Err
 returns-in-Err g c word locks =
-    comes-as g.S.Statements.stands c.args.s.number _ _ _ _ _ _ _ c.failed.ensures.phase c.failed.ensures.happened (on-fault g.S.Statements.stands g.met.S.Statements.orderly c.args.s.number word locks _ _ Closing c.in-Err.fault c.in-Err.ensures.does)
+    comes-as g.S.Statements.stands c.args.s.number _ _ _ _ _ _ _ c.failed.ensures.phase c.failed.ensures.happened (on-fault g.S.Statements.stands g.met.S.Statements.orderly c.args.s.number word locks _ _ Closing (g.L.LineStore.agrees c.args.store.now) (undoes-plain _ c.requires.closing) c.in-Err.fault c.in-Err.ensures.does)

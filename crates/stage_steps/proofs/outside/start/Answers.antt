@@ -12,7 +12,7 @@ pub returns-then-writes-clause-starts : goal.returns-then-writes-clause-starts
 returns-then-writes-clause-starts g c locks = c.begin_writing.ensures.begins c.args.word.now locks
 
 pub returns-else-writes-clause-starts : goal.returns-else-writes-clause-starts
-returns-else-writes-clause-starts g c locks = c.begin_reading.ensures.begins c.args.word.now locks
+returns-else-writes-clause-starts g c locks = c.begin_looking.ensures.begins c.args.word.now locks
 
 pub returns-in-Ok-None-clause-starts : goal.returns-in-Ok-None-clause-starts
 returns-in-Ok-None-clause-starts g c locks =
@@ -26,4 +26,4 @@ pub returns-then-writes-clause-cause : goal.returns-then-writes-clause-cause
 returns-then-writes-clause-cause g c = c.begin_writing.ensures.cause c.args.word.now
 
 pub returns-else-writes-clause-cause : goal.returns-else-writes-clause-cause
-returns-else-writes-clause-cause g c = c.begin_reading.ensures.cause c.args.word.now
+returns-else-writes-clause-cause g c = c.begin_looking.ensures.cause c.args.word.now

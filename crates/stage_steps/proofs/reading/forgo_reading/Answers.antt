@@ -7,13 +7,13 @@ use Rattle.session_measure.proofs.Nearer.{nearer-answered}
 use Rattle.session_limits.specs.session_states.States.{reader_item}
 use Rattle.stage_steps.specs.Turns.{shared}
 use Rattle.stage_steps.proofs.Goes.{goes, goes-still}
-use Rattle.stage_steps.proofs.Seated.{reads-on, reads-out}
+use Rattle.stage_steps.proofs.Seated.{bare-reader, reads-plain, reads-out}
 use Rattle.stage_steps.proofs.Tests.{first-starts}
 use Rattle.stage_steps.proofs.reading.forgo_reading.Goals as goal
 
 pub returns-then-goes_on-clause-forgoes : goal.returns-then-goes_on-clause-forgoes
 returns-then-goes_on-clause-forgoes g c word locks stage is =
-    rw (c.refused.ensures, c.spoken.ensures) (goes-still c.args.s.number _ Alive _ Alive _ _ _ refl (λ f. reads-on _ _ locks c.args.s.number _ _ refl f) (λ u other. refl) (nearer-answered c.args.s.number _ _ _ _ (let one : one_under_way (reader_item stage) ≡ 1 = ap one_under_way is in omega (arith, one)))
+    rw (c.refused.ensures, c.spoken.ensures) (goes-still c.args.s.number _ Alive _ Alive _ _ _ refl (λ f. reads-plain _ _ locks c.args.s.number _ _ (bare-reader _ c.requires.seat) refl tt f) (λ u other. refl) (nearer-answered c.args.s.number _ _ _ _ (let one : one_under_way (reader_item stage) ≡ 1 = ap one_under_way is in omega (arith, one)))
     (λ h shown dead left total. forgoes-to-reader g.S.Statements.stands g.met.S.Statements.orderly c.args.s.number (shared word h locks dead) left total c.args.terms.standing c.args.terms.known c.args.terms.spoken c.args.item stage is (sym c.goes_on.ensures ∙ c.if-goes_on.true)))
 
 pub returns-clause-forgoes : goal.returns-clause-forgoes

@@ -22,5 +22,5 @@ returns-in-Rollback g c word locks =
 
 pub returns-in-Nothing : goal.returns-in-Nothing
 returns-in-Nothing g c word locks =
-    rw (c.quiet.ensures.phase, c.quiet.ensures.happened, c.at.ensures) (goes-still c.args.s.number _ Alive _ Alive _ _ _ refl (λ f. reads-on _ _ locks c.args.s.number _ _ refl f) (λ u other. refl) (nearer-taken-up c.args.s.number _ _ _ _ c.args.item refl (omega arith))
+    rw (c.quiet.ensures.phase, c.quiet.ensures.happened, c.at.ensures) (goes-still c.args.s.number _ Alive _ Alive _ _ _ refl (λ f. reads-on _ _ locks c.args.s.number _ _ refl refl tt f) (λ u other. refl) (nearer-taken-up c.args.s.number _ _ _ _ c.args.item refl (omega arith))
     (λ h shown dead left total. takes-to-read g.S.Statements.stands g.met.S.Statements.orderly c.args.s.number (shared word h locks dead) c.args.item left total c.args.terms.standing c.args.terms.known c.args.terms.spoken c.in-Nothing.ensures))

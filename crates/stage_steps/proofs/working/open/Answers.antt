@@ -7,6 +7,7 @@ use Rattle.session_limits.specs.session_states.declared.stage.Stage.TheVariants.
 use Rattle.session_limits.proofs.of_session_states.Parting.{opens-on}
 use Rattle.session_measure.proofs.Nearer.{nearer-by-rank}
 use Rattle.stage_steps.specs.Turns.{at_stage, shared}
+use Rattle.line_store.specs.Seats.{is_changing}
 use Rattle.stage_steps.proofs.Goes.{goes, comes-as}
 use Rattle.stage_steps.proofs.Seated.{rests-at}
 use Rattle.stage_steps.proofs.Stored.{when-done, when-more, on-more, on-fault}
@@ -27,4 +28,4 @@ returns-in-Ok-More g c word locks =
 pub returns-in-Err : goal.returns-in-Err
 returns-in-Err g c word locks =
     comes-as g.S.Statements.stands c.args.s.number _ _ _ _ _ _ _ (c.failed.ensures.phase ∙ c.at-in-Err.ensures) c.failed.ensures.happened
-    (on-fault g.S.Statements.stands g.met.S.Statements.orderly c.args.s.number word locks _ _ (at_stage c.args.terms (Working c.args.item Opening)) c.in-Err.fault c.in-Err.ensures.does)
+    (on-fault g.S.Statements.stands g.met.S.Statements.orderly c.args.s.number word locks _ _ (at_stage c.args.terms (Working c.args.item Opening)) (g.L.LineStore.agrees c.args.store.now) (ap is_changing c.requires.opening) c.in-Err.fault c.in-Err.ensures.does)

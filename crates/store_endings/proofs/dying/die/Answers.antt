@@ -36,8 +36,8 @@ set_dead-requires-clause-ready g c x is =
     subst (λ st. IsReady st held.tables (at_stage st x)) (sym c.dead-next.ensures)
     (subst (λ (y : Member). IsReady (dead_at m.stage m.journalled) held.tables (at_stage (dead_at m.stage m.journalled) y)) same (dead-ready m.stage m.journalled held.tables m (c.keeps_commits.ensures.ready c.args.s.number m c.member-member.ensures)))
 
-pub returns-then-forgets : goal.returns-then-forgets
-returns-then-forgets g c =
+pub returns-then-forgets-clause-does : goal.returns-then-forgets-clause-does
+returns-then-forgets-clause-does g c =
     let v = g.D.Disk.view c.args._disk.now in
     let s = c.args.s.number in
     let held = c.args.held.now in
@@ -49,8 +49,8 @@ returns-then-forgets g c =
     (sym (comes.2 ∙ ap (λ (x : Member). with_member s (forgotten c.dead-next.result x) held) same ∙ ap (λ st. with_member s (forgotten st m) held) c.dead-next.ensures))
     (dies-forgotten v held s m was (sym c.forgets.ensures ∙ c.if-forgets.true))
 
-pub returns-else-forgets : goal.returns-else-forgets
-returns-else-forgets g c =
+pub returns-else-forgets-clause-does : goal.returns-else-forgets-clause-does
+returns-else-forgets-clause-does g c =
     let v = g.D.Disk.view c.args._disk.now in
     let s = c.args.s.number in
     let held = c.args.held.now in

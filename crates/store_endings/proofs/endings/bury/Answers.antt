@@ -13,6 +13,7 @@ use Rattle.disk_store.proofs.Failing.{does-fail}
 use Rattle.disk_store.proofs.Closing.{keeps-it, does-bury, dead-rests, one-member}
 use Rattle.store_endings.proofs.SlotsGiven.{does-give, forgotten-outside, no-slots, stands-outside}
 use Rattle.store_endings.proofs.Tidied.{undone-still}
+use Rattle.disk_store.proofs.OwnFiles.{own-journal}
 use Rattle.store_endings.proofs.endings.bury.Goals as goal
 
 pub returns-in_default-clause-comes : goal.returns-in_default-clause-comes
@@ -23,7 +24,7 @@ returns-in_default-clause-comes g c =
     let at = c.requires.died.1 in
     let st : at.member.stage ≡ stage.Dead c.requires.died.0 recovery.Ending = at.at in
     does-fail v w c.args.held.now s at.member at.is (λ reads. cc)
-    (keeps-it v w c.args.held.now s at.member at.is (λ ledger stands. dead-rests v ledger s at.member c.requires.died.0 at.at stands) c.close.ensures.writes c.close.ensures.keeps) (c.in_default.ensures.counts.cause refl)
+    (keeps-it v w c.args.held.now s at.member at.is (λ ledger stands. dead-rests v ledger s at.member c.requires.died.0 at.at stands) c.close.ensures.writes c.close.ensures.keeps) (λ changes. cc) (c.in_default.ensures.counts.cause refl)
 
 pub returns-clause-answers : goal.returns-clause-answers
 returns-clause-answers g c alive =
@@ -54,3 +55,9 @@ returns-clause-comes g c =
 
 pub returns-clause-slots : goal.returns-clause-slots
 returns-clause-slots g c = no-slots c.forget.new.self c.give_slots.new.self c.args.s.number c.give_slots.ensures
+
+pub returns-in_default-clause-writes : goal.returns-in_default-clause-writes
+returns-in_default-clause-writes g c = own-journal c.args.s.number 0 (g.D.Disk.view c.args.disk.now) (g.D.Disk.view c.close.new.disk) c.close.ensures.writes
+
+pub returns-clause-writes : goal.returns-clause-writes
+returns-clause-writes g c = own-journal c.args.s.number 0 (g.D.Disk.view c.args.disk.now) (g.D.Disk.view c.close.new.disk) c.close.ensures.writes

@@ -9,9 +9,10 @@ use Rattle.disk_store.specs.Memory.{StoreMemory, with_member}
 use Rattle.disk_store.specs.Seats.{stand_at}
 use Rattle.disk_store.specs.Shown.{sight_of}
 use Rattle.disk_store.proofs.Failing.{does-fail}
-use Rattle.disk_store.proofs.Closing.{ended-at, ended-plain, ended-rests, keeps-it, does-close, one-member}
+use Rattle.disk_store.proofs.Closing.{ended-at, ended-plain, ended-unchanging, ended-rests, keeps-it, does-close, one-member}
 use Rattle.store_endings.proofs.SlotsGiven.{does-give, forgotten-outside, no-slots, stands-outside}
 use Rattle.store_endings.proofs.Tidied.{done-still}
+use Rattle.disk_store.proofs.OwnFiles.{own-journal}
 use Rattle.store_endings.proofs.endings.put_away.Goals as goal
 
 pub returns-in_default-clause-comes : goal.returns-in_default-clause-comes
@@ -20,7 +21,7 @@ returns-in_default-clause-comes g c =
     let w = g.D.Disk.view c.close.new.disk in
     let at = ended-at c.args.held.now.members c.args.s.number c.requires.ended in
     does-fail v w c.args.held.now c.args.s.number at.member at.is (ended-plain at.member.stage at.ended)
-    (keeps-it v w c.args.held.now c.args.s.number at.member at.is (λ ledger stands. ended-rests at.member.stage at.ended v ledger c.args.s.number at.member stands) c.close.ensures.writes c.close.ensures.keeps) (c.in_default.ensures.counts.cause refl)
+    (keeps-it v w c.args.held.now c.args.s.number at.member at.is (λ ledger stands. ended-rests at.member.stage at.ended v ledger c.args.s.number at.member stands) c.close.ensures.writes c.close.ensures.keeps) (ended-unchanging at.member.stage at.ended) (c.in_default.ensures.counts.cause refl)
 
 pub give_slots-requires-clause-outside : goal.give_slots-requires-clause-outside
 give_slots-requires-clause-outside g c = let comes = c.forget.ensures in forgotten-outside c.args.held.now c.forget.new.self c.args.s.number comes.0 comes.1 comes.2
@@ -46,3 +47,9 @@ returns-clause-comes g c =
 
 pub returns-clause-slots : goal.returns-clause-slots
 returns-clause-slots g c = no-slots c.forget.new.self c.give_slots.new.self c.args.s.number c.give_slots.ensures
+
+pub returns-in_default-clause-writes : goal.returns-in_default-clause-writes
+returns-in_default-clause-writes g c = own-journal c.args.s.number 0 (g.D.Disk.view c.args.disk.now) (g.D.Disk.view c.close.new.disk) c.close.ensures.writes
+
+pub returns-clause-writes : goal.returns-clause-writes
+returns-clause-writes g c = own-journal c.args.s.number 0 (g.D.Disk.view c.args.disk.now) (g.D.Disk.view c.close.new.disk) c.close.ensures.writes

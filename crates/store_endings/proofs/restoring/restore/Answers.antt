@@ -12,6 +12,7 @@ use Rattle.disk_store.proofs.Failing.{does-fail}
 use Rattle.disk_store.proofs.Closing.{one-member}
 use Rattle.disk_store.proofs.Restored.{keeps-read, does-restore}
 use Rattle.disk_store.specs.Commits.{is_flying}
+use Rattle.disk_store.proofs.OwnFiles.{own-reads}
 use Rattle.store_endings.proofs.restoring.restore.Goals as goal
 
 pub set_dead-requires-clause-flies : goal.set_dead-requires-clause-flies
@@ -24,7 +25,7 @@ returns-in_default-clause-comes g c =
     let v = g.D.Disk.view c.args.disk.now in
     let w = g.D.Disk.view c.settle.new.disk in
     let at = c.requires.died in
-    does-fail v w c.args.held.now c.args.s.number at.member at.is (λ reads. cc) (keeps-read v w c.args.held.now c.args.s.number at.member c.settle.ensures.reads c.settle.ensures.keeps) (c.in_default.ensures.counts.cause refl)
+    does-fail v w c.args.held.now c.args.s.number at.member at.is (λ reads. cc) (keeps-read v w c.args.held.now c.args.s.number at.member c.settle.ensures.reads c.settle.ensures.keeps) (λ changes. cc) (c.in_default.ensures.counts.cause refl)
 
 pub returns-clause-comes : goal.returns-clause-comes
 returns-clause-comes g c =
@@ -49,3 +50,9 @@ returns-clause-less g c more =
     let behind : steps_at c.set_dead.new.self.members s ≡ 1 = ap (λ (x : StoreMemory). steps_at x.members s) comes.2 ∙ ap steps_of (set-here held.members s next c.set_dead.ensures.within) in
     let before : steps_at held.members s ≡ 2 = ap steps_of at.is ∙ ap (λ x. steps_in x at.member) at.at in
     omega (arith, behind, before)
+
+pub returns-in_default-clause-writes : goal.returns-in_default-clause-writes
+returns-in_default-clause-writes g c = own-reads (g.D.Disk.view c.args.disk.now) (g.D.Disk.view c.settle.new.disk) c.settle.ensures.reads
+
+pub returns-clause-writes : goal.returns-clause-writes
+returns-clause-writes g c = own-reads (g.D.Disk.view c.args.disk.now) (g.D.Disk.view c.settle.new.disk) c.settle.ensures.reads

@@ -12,8 +12,8 @@ use Rattle.disk_store.proofs.EndingOpen.{does-end}
 use Rattle.disk_store.proofs.Stages.{is-writing, rolled-now, may-end-begun}
 use Rattle.store_endings.proofs.rolling.roll_back.Goals as goal
 
-pub returns : goal.returns
-returns g c =
+pub returns-clause-does : goal.returns-clause-does
+returns-clause-does g c =
     let v = g.D.Disk.view c.args._disk.now in
     let s = c.args.s.number in
     let held = c.args.held.now in

@@ -1,8 +1,9 @@
-use Rattle.std.proofs.Common.{◌≡◌, ◌+◌, ℕ, Bool, true, List, Some, Err, sym, subst, ap, ◌∙◌, arith}
+use Rattle.std.proofs.Common.{◌≡◌, ◌≢◌, ◌+◌, ℕ, Bool, true, List, Some, Err, sym, subst, ap, ◌∙◌, arith}
 use Rattle.std.specs.Prelude.{slice_get}
 use Rattle.rdb_types.specs.declared.keys.Limits.{Limits}
 use Rattle.line_store.specs.Calls.{GoesOn, Fails}
 use Rattle.line_store.proofs.Causes.{cause-of}
+use Rattle.line_store.specs.Seats.{failed_at}
 use Rattle.line_store.specs.Sights.{Does}
 use Rattle.disk_seats.specs.Ledgers.{undoing, stands_as}
 use Rattle.disk_seats.specs.Members.{LedgerFacts}
@@ -18,7 +19,9 @@ use Rattle.disk_store.specs.Shown.{sight_of}
 use Rattle.disk_store.proofs.Members.{set-here}
 use Rattle.disk_store.proofs.DeadStages.{undoing-ready}
 use Rattle.disk_store.proofs.Closing.{one-member}
+use Rattle.disk_store.proofs.Failing.{does-failed, moves-failed}
 use Rattle.store_endings.proofs.PutBack.{undone-with, does-back, does-none-left, fewer-left}
+use Rattle.disk_store.proofs.OwnFiles.{own-area, own-none}
 use Rattle.store_endings.proofs.undoing.put_back.Goals as goal
 
 -- it was dead before
@@ -106,9 +109,10 @@ returns-in-Err-clause-comes g c =
     let comes = c.set_dead-in-Err.ensures.comes in
     let same : comes.0 ≡ at.member = one-member held.members s comes.0 at.member comes.1 at.is in
     let writes = c.undo.ensures.writes in
-    subst (λ new. Does s (stand_at held.members s) (λ h k. Fails s c.in-Err.fault h k) (sight_of v held) (sight_of w new))
+    let other : at.member.stage ≢ stage.Changing = λ changes. cc in
+    subst (λ new. Does s (failed_at (stand_at held.members s)) (λ h k. Fails s c.in-Err.fault h k) (sight_of v held) (sight_of w new))
     (sym (comes.2 ∙ ap (λ (x : Member). with_member s (at_stage (stage.Dead c.args.commits (recovery.Undoing c.member-member.result.now.journalled)) x) held) same ∙ ap (λ (k : ℕ). with_member s (at_stage (stage.Dead c.args.commits (recovery.Undoing k)) at.member) held) all))
-    (does-back v w held s at.member c.args.commits c.args.left at.member.journalled (recovery.Undoing at.member.journalled) at.is at.at (λ ledger u. u) writes.0 writes.1 writes.2 writes.3
+    (does-failed held s at.member at.is other (λ h k. Fails s c.in-Err.fault h k) (sight_of v held) (sight_of w (with_member s (at_stage (stage.Dead c.args.commits (recovery.Undoing at.member.journalled)) at.member) held)) (does-back v w held s at.member c.args.commits c.args.left at.member.journalled (recovery.Undoing at.member.journalled) at.is at.at (λ ledger u. u) writes.0 writes.1 writes.2 writes.3
     (λ t ledger facts limits u.
     let tsn = ap (λ (x : Member). x.tsn) mine ∙ u.number in
     let pages = ap (λ (l : Limits). l.pages) (c.limits-limits.ensures ∙ sym limits) in
@@ -118,8 +122,17 @@ returns-in-Err-clause-comes g c =
     })
     c.undo.ensures.classes c.undo.ensures.owners (λ h k. Fails s c.in-Err.fault h k)
     (λ h k shown u moves before behind faults faults-behind. record {
-      moves = moves;
+      moves = moves-failed v held s at.member at.is other h k shown moves;
       cause = cause-of c.in-Err.fault h.clock k.clock v.faults w.faults (λ is. c.in-Err.ensures.failed (ap Err is))
           (λ file slot is. absurd (c.in-Err.ensures.bad file slot (ap Err is) shown.tells shown.ledger u.transaction u.all shown.facts u.stands u.is_open (ap (λ (x : Member). x.tsn) mine ∙ u.number) (ap (λ (l : Limits). l.pages) (c.limits-limits.ensures ∙ sym shown.limits))))
           faults faults-behind;
-    }))
+    })))
+
+pub returns-then-left-eq0-clause-writes : goal.returns-then-left-eq0-clause-writes
+returns-then-left-eq0-clause-writes g c = own-none (g.D.Disk.view c.args.disk.now)
+
+pub returns-in-Ok-clause-writes : goal.returns-in-Ok-clause-writes
+returns-in-Ok-clause-writes g c = let writes = c.undo.ensures.writes in own-area writes.0 writes.1 (g.D.Disk.view c.args.disk.now) (g.D.Disk.view c.undo.new.disk) writes.3
+
+pub returns-in-Err-clause-writes : goal.returns-in-Err-clause-writes
+returns-in-Err-clause-writes g c = let writes = c.undo.ensures.writes in own-area writes.0 writes.1 (g.D.Disk.view c.args.disk.now) (g.D.Disk.view c.undo.new.disk) writes.3

@@ -2,10 +2,11 @@ use Rattle.std.proofs.Common.{◌≡◌, ◌-◌, ◌∙◌, sym, ap, subst, ref
 use Rattle.rdb_account.specs.Events.{event_of}
 use Rattle.session_states.specs.declared.stage.Member.{Member}
 use Rattle.lent_members.specs.Going.{is_over}
-use Rattle.line_cluster.proofs.Coming.{has-died, looked}
+use Rattle.line_cluster.proofs.Coming.{has-died, looked, none-from}
 use Rattle.line_cluster.proofs.Faults.{counts-fewer, other-death}
 use Rattle.line_cluster.proofs.Falling.{let-die}
 use Rattle.line_cluster.proofs.Stepping.{work-alive}
+use Rattle.line_cluster.proofs.Unbroken.{whole-fallen}
 use Rattle.line_cluster.proofs.sessions.Core.die.Goals as goal
 
 pub returns-then-is_some-clause-came : goal.returns-then-is_some-clause-came
@@ -28,3 +29,9 @@ returns-clause-came g c =
 
 pub fall-requires-clause-mortal : goal.fall-requires-clause-mortal
 fall-requires-clause-mortal g c = λ m found. let-die g.O.Origin.opening c.args.s.number m.left m.phase c.args.cause c.requires.mortal
+
+pub returns-clause-unbroken : goal.returns-clause-unbroken
+returns-clause-unbroken g c = λ going.
+    let m = c.member_at.result.now in
+    let found : slice_get c.args.self.now.members.items (c.args.s.number - 1) ≡ Some m = ap (λ (ms : List Member). slice_get ms (c.args.s.number - 1)) (sym c.deref.ensures.value) ∙ c.member_at.ensures in
+    whole-fallen c.args.self.now.members.items _ (c.args.s.number - 1) m (c.fall.ensures.died m found) (c.requires.unbroken (none-from c.args.self.now.halt (sym c.is_some.ensures ∙ c.if-is_some.false)))

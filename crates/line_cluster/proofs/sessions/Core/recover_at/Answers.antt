@@ -15,6 +15,7 @@ use Rattle.line_cluster.proofs.Falling.{has-recovered, dead-stands, died-at}
 use Rattle.line_cluster.proofs.Faults.{fault-within, quiet-within, slot_in, slot-of}
 use Rattle.line_cluster.proofs.Nearing.{recovered-nearer}
 use Rattle.line_cluster.proofs.Room.{room-recovered, room-to-recover}
+use Rattle.line_cluster.proofs.Unbroken.{whole-recovered}
 use Rattle.line_cluster.proofs.sessions.Core.recover_at.Goals as goal
 
 plus-none : (n : ℕ) → n + 0 ≡ n
@@ -73,3 +74,13 @@ returns-in-Err-clause-kept g c =
     room-recovered c.args.self.now.members.items c.put_member.new.members.items c.args.at c.take_member-member.result (c.args.at + 1) c.recover-step.result _ _ _ _ c.take_member-member.ensures.taken (died-at c.args.self.now.members.items c.args.at c.take_member-member.result c.requires.dead c.take_member-member.ensures.taken)
     (c.put_member.ensures ∙ ((c.take_member-member.ensures.rest _ ∙ ap (λ (n : Member). slice_set c.args.self.now.members.items c.args.at n) c.with_life.ensures) ∙ ap (λ (l : Life). slice_set c.args.self.now.members.items c.args.at (with_life l c.take_member-member.result)) c.life_behind.ensures))
     (sym (plus-none (vec_len c.args.self.now.events)) ∙ ap (λ (r : Result Recovery Fault). vec_len c.args.self.now.events + length (recovery_events (c.args.at + 1) r)) (sym c.in-Err.is)) refl c.requires.kept
+
+pub returns-in-Ok-clause-unbroken : goal.returns-in-Ok-clause-unbroken
+returns-in-Ok-clause-unbroken g c =
+    whole-recovered c.args.self.now.members.items c.put_member.new.members.items c.args.at c.take_member-member.result c.recover-step.result
+    (c.put_member.ensures ∙ ((c.take_member-member.ensures.rest _ ∙ ap (λ (n : Member). slice_set c.args.self.now.members.items c.args.at n) c.with_life.ensures) ∙ ap (λ (l : Life). slice_set c.args.self.now.members.items c.args.at (with_life l c.take_member-member.result)) c.life_behind.ensures)) c.requires.unbroken
+
+pub returns-in-Err-clause-unbroken : goal.returns-in-Err-clause-unbroken
+returns-in-Err-clause-unbroken g c =
+    whole-recovered c.args.self.now.members.items c.put_member.new.members.items c.args.at c.take_member-member.result c.recover-step.result
+    (c.put_member.ensures ∙ ((c.take_member-member.ensures.rest _ ∙ ap (λ (n : Member). slice_set c.args.self.now.members.items c.args.at n) c.with_life.ensures) ∙ ap (λ (l : Life). slice_set c.args.self.now.members.items c.args.at (with_life l c.take_member-member.result)) c.life_behind.ensures)) c.requires.unbroken

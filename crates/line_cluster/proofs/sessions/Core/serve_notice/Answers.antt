@@ -4,6 +4,7 @@ use Rattle.rdb_account.specs.Events.{event_of}
 use Rattle.line_account.specs.stage_steps.Notices.{demoted_by}
 use Rattle.line_cluster.specs.Deaths.{faults_in}
 use Rattle.line_cluster.specs.Sound.{is_over_slot, is_unsound}
+use Rattle.line_cluster.proofs.Counting.{demotion-still}
 use Rattle.line_cluster.proofs.Faults.{counts-fewer, demotion-alive, other-death}
 use Rattle.line_cluster.proofs.Marks.{notice-marks}
 use Rattle.line_cluster.proofs.Nearing.{spare-writes}
@@ -20,7 +21,7 @@ returns-in-Err-clause-writer g c = spare-writes (g.L.LineStore.sight c.args.self
 pub returns-in-Ok-clause-sound : goal.returns-in-Ok-clause-sound
 returns-in-Ok-clause-sound g c = served g.S.Statements.stands g.met.S.Statements.orderly g.O.Origin.told g.O.Origin.opening g.O.Origin.faults _ _ (g.L.LineStore.stands c.args.self.now.common.store) _ _ _ _ _ _ _ _ _ c.requires.going c.requires.lives
     (spare-writes (g.L.LineStore.sight c.args.self.now.common.store).stand c.args.self.now.common.tree c.args.self.now.members.items (c.requires.sound.seated c.requires.going) c.blocker.ensures.whole c.requires.lives c.args.notice.to.number c.args.notice.node c.requires.due)
-    c.requires.sound c.serve.ensures.parties c.in-Ok.ensures.served (demotion-alive c.args.notice.to.number c.args.notice.node c.in-Ok.demotion) (ap faults_in c.requires.going) (ap is_unsound c.requires.going) (ap is_over_slot c.requires.going) c.record_demotion.ensures.events
+    c.requires.sound c.serve.ensures.parties c.in-Ok.ensures.served (demotion-alive c.args.notice.to.number c.args.notice.node c.in-Ok.demotion) (demotion-still g.O.Origin.opening c.args.notice.to.number c.args.notice.node c.in-Ok.demotion) (ap faults_in c.requires.going) (ap is_unsound c.requires.going) (ap is_over_slot c.requires.going) c.record_demotion.ensures.events
 
 pub returns-in-Ok-clause-kept : goal.returns-in-Ok-clause-kept
 returns-in-Ok-clause-kept g c = room-noticed _ _ _ _ _ c.requires.room c.record_demotion.ensures.len c.record_demotion.ensures.capacity
@@ -40,7 +41,7 @@ returns-in-Ok-clause-done g c = inl refl
 pub fall-requires-clause-sound : goal.fall-requires-clause-sound
 fall-requires-clause-sound g c = served g.S.Statements.stands g.met.S.Statements.orderly g.O.Origin.told g.O.Origin.opening g.O.Origin.faults _ _ (g.L.LineStore.stands c.args.self.now.common.store) _ _ _ _ _ _ _ _ _ c.requires.going c.requires.lives
     (spare-writes (g.L.LineStore.sight c.args.self.now.common.store).stand c.args.self.now.common.tree c.args.self.now.members.items (c.requires.sound.seated c.requires.going) c.blocker.ensures.whole c.requires.lives c.args.notice.to.number c.args.notice.node c.requires.due)
-    c.requires.sound c.serve.ensures.parties c.in-Err.ensures.err refl (ap faults_in c.requires.going) (ap is_unsound c.requires.going) (ap is_over_slot c.requires.going) (sym (append-nil _))
+    c.requires.sound c.serve.ensures.parties c.in-Err.ensures.err refl (λ p b. refl) (ap faults_in c.requires.going) (ap is_unsound c.requires.going) (ap is_over_slot c.requires.going) (sym (append-nil _))
 
 pub fall-requires-clause-mortal : goal.fall-requires-clause-mortal
 fall-requires-clause-mortal g c = λ m found. (c.requires.mortal c.args.s.number).1

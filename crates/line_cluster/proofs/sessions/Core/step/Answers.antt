@@ -1,4 +1,4 @@
-use Rattle.std.proofs.Common.{◌∙◌, ◌+◌, ◌++◌, ◌&&◌, ◌≡◌, ℕ, Bool, true, List, length, refl, sym, ap, subst, map, is_some, slice_get, append-nil}
+use Rattle.std.proofs.Common.{◌∙◌, ◌+◌, ◌++◌, ◌&&◌, ◌≡◌, ℕ, Bool, true, List, length, refl, sym, ap, subst, map, is_some, slice_get, slice_set, append-nil, inl, inr}
 use Rattle.rdb_types.specs.declared.session.Cause.TheVariants.{Device}
 use Rattle.rdb_account.specs.Events.{event_of}
 use Rattle.line_store.specs.Sights.{Sight}
@@ -20,10 +20,14 @@ use Rattle.line_cluster.proofs.Faults.{counts-failed, counts-fewer, failed-death
 use Rattle.line_cluster.proofs.Measured.{set-found}
 use Rattle.line_cluster.proofs.Room.{room-before, room-behind, room-still, room-within}
 use Rattle.line_cluster.proofs.Nearing.{lives-on, turned-nearer, served-nearer, is-due}
-use Rattle.line_cluster.specs.Sound.{IsSound, is_over_slot, is_unsound}
+use Rattle.line_cluster.specs.Sound.{AreWhole, IsSound, is_over_slot, is_unsound}
 use Rattle.line_cluster.specs.declared.sessions.Turn.{Turn}
 use Rattle.line_cluster.specs.declared.sessions.Turn.TheVariants as turn
 use Rattle.line_cluster.proofs.Stepping.{among, seated-at, has-work, moving-keeps, noticed-keeps, put-lives, turned}
+use Rattle.std.proofs.lemmas.Bool.{false≢true}
+use Rattle.session_states.specs.declared.stage.Life.TheVariants.{Dead}
+use Rattle.lent_members.specs.Going.{with_life}
+use Rattle.line_cluster.proofs.Unbroken.{whole-moved, whole-noticed, whole-fallen, whole-broken}
 use Rattle.line_cluster.proofs.sessions.Core.step.Goals as goal
 
 pub go_on_from-turned-requires-clause-seated : goal.go_on_from-turned-requires-clause-seated
@@ -38,17 +42,17 @@ go_on_from-turned-requires-clause-going g c = c.requires.work (member_of c.in-So
 pub returns-in-Nothing-clause-sound : goal.returns-in-Nothing-clause-sound
 returns-in-Nothing-clause-sound g c =
     turned g.S.Statements.stands g.met.S.Statements.orderly g.O.Origin.told g.O.Origin.opening g.O.Origin.faults _ _ (g.L.LineStore.stands c.go_on_from-turned.new.common.store) _ _ _ _ c.args.s.number c.args.at (member_of c.in-Some.present) _ _ _ _ _ c.requires.one.first c.requires.at c.requires.going c.requires.lives c.in-Some.ensures.taken
-    (c.requires.alive (member_of c.in-Some.present) c.in-Some.ensures.taken) c.requires.sound c.go_on_from-turned.ensures.goes c.go_on_from-turned.ensures.some (λ none. moving-keeps _ (c.behind_of-then.ensures.nothing c.in-Nothing.is)) (ap faults_in c.requires.going) (ap is_unsound c.requires.going ∙ (ap (λ (b : Behind). is_unsound (halt_behind b)) (sym c.in-Nothing.is) ∙ c.behind_of-then.ensures.unsound)) (ap is_over_slot c.requires.going ∙ (ap (λ (b : Behind). is_over_slot (halt_behind b)) (sym c.in-Nothing.is) ∙ c.behind_of-then.ensures.slot)) (c.put_member.ensures ∙ c.take_present.ensures.rest _) c.record.ensures.events
+    (c.requires.alive (member_of c.in-Some.present) c.in-Some.ensures.taken) c.requires.sound c.go_on_from-turned.ensures.goes c.go_on_from-turned.ensures.some (λ none. moving-keeps _ (c.behind_of-then.ensures.nothing c.in-Nothing.is)) (ap faults_in c.requires.going) (ap is_unsound c.requires.going ∙ (ap (λ (b : Behind). is_unsound (halt_behind b)) (sym c.in-Nothing.is) ∙ c.behind_of-then.ensures.unsound)) (ap is_over_slot c.requires.going ∙ (ap (λ (b : Behind). is_over_slot (halt_behind b)) (sym c.in-Nothing.is) ∙ c.behind_of-then.ensures.slot)) c.go_on_from-turned.ensures.backed (c.put_member.ensures ∙ c.take_present.ensures.rest _) c.record.ensures.events
 
 pub returns-in-Stop-clause-sound : goal.returns-in-Stop-clause-sound
 returns-in-Stop-clause-sound g c =
     turned g.S.Statements.stands g.met.S.Statements.orderly g.O.Origin.told g.O.Origin.opening g.O.Origin.faults _ _ (g.L.LineStore.stands c.go_on_from-turned.new.common.store) _ _ _ _ c.args.s.number c.args.at (member_of c.in-Some.present) _ _ _ _ _ c.requires.one.first c.requires.at c.requires.going c.requires.lives c.in-Some.ensures.taken
-    (c.requires.alive (member_of c.in-Some.present) c.in-Some.ensures.taken) c.requires.sound c.go_on_from-turned.ensures.goes c.go_on_from-turned.ensures.some (λ none. cc none) (ap (λ (b : Behind). faults_in (halt_behind b)) (sym c.in-Stop.is) ∙ c.behind_of-then.ensures.stop) (ap (λ (b : Behind). is_unsound (halt_behind b)) (sym c.in-Stop.is) ∙ c.behind_of-then.ensures.unsound) (ap (λ (b : Behind). is_over_slot (halt_behind b)) (sym c.in-Stop.is) ∙ c.behind_of-then.ensures.slot) (c.put_member.ensures ∙ c.take_present.ensures.rest _) c.record.ensures.events
+    (c.requires.alive (member_of c.in-Some.present) c.in-Some.ensures.taken) c.requires.sound c.go_on_from-turned.ensures.goes c.go_on_from-turned.ensures.some (λ none. cc none) (ap (λ (b : Behind). faults_in (halt_behind b)) (sym c.in-Stop.is) ∙ c.behind_of-then.ensures.stop) (ap (λ (b : Behind). is_unsound (halt_behind b)) (sym c.in-Stop.is) ∙ c.behind_of-then.ensures.unsound) (ap (λ (b : Behind). is_over_slot (halt_behind b)) (sym c.in-Stop.is) ∙ c.behind_of-then.ensures.slot) c.go_on_from-turned.ensures.backed (c.put_member.ensures ∙ c.take_present.ensures.rest _) c.record.ensures.events
 
 pub serve_notice-requires-clause-sound : goal.serve_notice-requires-clause-sound
 serve_notice-requires-clause-sound g c =
     turned g.S.Statements.stands g.met.S.Statements.orderly g.O.Origin.told g.O.Origin.opening g.O.Origin.faults _ _ (g.L.LineStore.stands c.go_on_from-turned.new.common.store) _ _ _ _ c.args.s.number c.args.at (member_of c.in-Some.present) _ _ _ _ _ c.requires.one.first c.requires.at c.requires.going c.requires.lives c.in-Some.ensures.taken
-    (c.requires.alive (member_of c.in-Some.present) c.in-Some.ensures.taken) c.requires.sound c.go_on_from-turned.ensures.goes c.go_on_from-turned.ensures.some (λ none. noticed-keeps _ _ (c.behind_of-then.ensures.serve c.in-Serve.notice c.in-Serve.is)) (ap faults_in c.requires.going) (ap is_unsound c.requires.going ∙ (ap (λ (b : Behind). is_unsound (halt_behind b)) (sym c.in-Serve.is) ∙ c.behind_of-then.ensures.unsound)) (ap is_over_slot c.requires.going ∙ (ap (λ (b : Behind). is_over_slot (halt_behind b)) (sym c.in-Serve.is) ∙ c.behind_of-then.ensures.slot)) (c.put_member.ensures ∙ c.take_present.ensures.rest _) c.record.ensures.events
+    (c.requires.alive (member_of c.in-Some.present) c.in-Some.ensures.taken) c.requires.sound c.go_on_from-turned.ensures.goes c.go_on_from-turned.ensures.some (λ none. noticed-keeps _ _ (c.behind_of-then.ensures.serve c.in-Serve.notice c.in-Serve.is)) (ap faults_in c.requires.going) (ap is_unsound c.requires.going ∙ (ap (λ (b : Behind). is_unsound (halt_behind b)) (sym c.in-Serve.is) ∙ c.behind_of-then.ensures.unsound)) (ap is_over_slot c.requires.going ∙ (ap (λ (b : Behind). is_over_slot (halt_behind b)) (sym c.in-Serve.is) ∙ c.behind_of-then.ensures.slot)) c.go_on_from-turned.ensures.backed (c.put_member.ensures ∙ c.take_present.ensures.rest _) c.record.ensures.events
 
 pub serve_notice-requires-clause-lives : goal.serve_notice-requires-clause-lives
 serve_notice-requires-clause-lives g c = lives-on _ _ c.args.at (member_of c.in-Some.present) _ _ c.in-Some.ensures.taken (c.put_member.ensures ∙ c.take_present.ensures.rest _) c.requires.lives
@@ -118,7 +122,7 @@ pub fall-requires-clause-sound : goal.fall-requires-clause-sound
 fall-requires-clause-sound g c =
     let failed = c.behind_of-then.ensures.die c.in-Die.is in
     turned g.S.Statements.stands g.met.S.Statements.orderly g.O.Origin.told g.O.Origin.opening g.O.Origin.faults _ _ (g.L.LineStore.stands c.go_on_from-turned.new.common.store) _ _ _ _ c.args.s.number c.args.at (member_of c.in-Some.present) _ _ _ _ _ c.requires.one.first c.requires.at c.requires.going c.requires.lives c.in-Some.ensures.taken
-    (c.requires.alive (member_of c.in-Some.present) c.in-Some.ensures.taken) c.requires.sound c.go_on_from-turned.ensures.goes c.go_on_from-turned.ensures.some (λ none. ap handed_back failed) (ap faults_in c.requires.going) (ap is_unsound c.requires.going ∙ (ap (λ (b : Behind). is_unsound (halt_behind b)) (sym c.in-Die.is) ∙ c.behind_of-then.ensures.unsound)) (ap is_over_slot c.requires.going ∙ (ap (λ (b : Behind). is_over_slot (halt_behind b)) (sym c.in-Die.is) ∙ c.behind_of-then.ensures.slot)) (c.put_member.ensures ∙ c.take_present.ensures.rest _)
+    (c.requires.alive (member_of c.in-Some.present) c.in-Some.ensures.taken) c.requires.sound c.go_on_from-turned.ensures.goes c.go_on_from-turned.ensures.some (λ none. ap handed_back failed) (ap faults_in c.requires.going) (ap is_unsound c.requires.going ∙ (ap (λ (b : Behind). is_unsound (halt_behind b)) (sym c.in-Die.is) ∙ c.behind_of-then.ensures.unsound)) (ap is_over_slot c.requires.going ∙ (ap (λ (b : Behind). is_over_slot (halt_behind b)) (sym c.in-Die.is) ∙ c.behind_of-then.ensures.slot)) c.go_on_from-turned.ensures.backed (c.put_member.ensures ∙ c.take_present.ensures.rest _)
     (sym (append-nil (map event_of c.args.self.now.events.items)) ∙ ap (λ (h : Happening). map event_of c.args.self.now.events.items ++ events_of c.args.s.number h) (sym failed))
 
 pub fall-requires-clause-caused : goal.fall-requires-clause-caused
@@ -191,3 +195,33 @@ stopped-moves e = cc e
 
 pub returns-in-None-clause-nearer : goal.returns-in-None-clause-nearer
 returns-in-None-clause-nearer g c = λ moved. absurd (stopped-moves (sym c.stop.ensures.stopped ∙ moved))
+
+-- none that lives is broken
+
+pub go_on_from-turned-requires-clause-whole : goal.go_on_from-turned-requires-clause-whole
+go_on_from-turned-requires-clause-whole g c = c.requires.unbroken c.args.at (member_of c.in-Some.present) c.in-Some.ensures.taken (c.requires.alive (member_of c.in-Some.present) c.in-Some.ensures.taken)
+
+pub returns-in-Nothing-clause-unbroken : goal.returns-in-Nothing-clause-unbroken
+returns-in-Nothing-clause-unbroken g c = λ none.
+    whole-moved g.S.Statements.stands c.args.s.number c.args.at (scene c.args.self.now.common.word (g.L.LineStore.sight c.args.self.now.common.store) c.args.self.now.common.tree) (scene c.go_on_from-turned.new.common.word (g.L.LineStore.sight c.go_on_from-turned.new.common.store) c.go_on_from-turned.new.common.tree) c.args.self.now.members.items c.put_member.new.members.items (member_of c.in-Some.present) c.go_on_from-turned.new.left c.go_on_from-turned.result.phase c.go_on_from-turned.result.happened
+    c.in-Some.ensures.taken (c.requires.alive (member_of c.in-Some.present) c.in-Some.ensures.taken) c.go_on_from-turned.ensures.one (c.go_on_from-turned.ensures.goes (moving-keeps _ (c.behind_of-then.ensures.nothing c.in-Nothing.is))) (c.put_member.ensures ∙ c.take_present.ensures.rest _) c.requires.unbroken (c.behind_of-then.ensures.nothing c.in-Nothing.is)
+
+pub returns-in-Serve-clause-unbroken : goal.returns-in-Serve-clause-unbroken
+returns-in-Serve-clause-unbroken g c = λ none.
+    let n : Member = (record { left = c.go_on_from-turned.new.left; total = c.in-Some.present.total; phase = c.go_on_from-turned.result.phase; life = c.in-Some.present.life }) in
+    let mid : AreWhole c.put_member.new.members.items =
+    whole-noticed g.S.Statements.stands c.args.s.number c.args.at (scene c.args.self.now.common.word (g.L.LineStore.sight c.args.self.now.common.store) c.args.self.now.common.tree) (scene c.go_on_from-turned.new.common.word (g.L.LineStore.sight c.go_on_from-turned.new.common.store) c.go_on_from-turned.new.common.tree) c.args.self.now.members.items c.put_member.new.members.items (member_of c.in-Some.present) c.go_on_from-turned.new.left c.go_on_from-turned.result.phase c.go_on_from-turned.result.happened
+    c.in-Some.ensures.taken (c.requires.alive (member_of c.in-Some.present) c.in-Some.ensures.taken) c.go_on_from-turned.ensures.one (c.go_on_from-turned.ensures.goes (noticed-keeps _ _ (c.behind_of-then.ensures.serve c.in-Serve.notice c.in-Serve.is))) (c.put_member.ensures ∙ c.take_present.ensures.rest _) c.requires.unbroken c.in-Serve.notice (c.behind_of-then.ensures.serve c.in-Serve.notice c.in-Serve.is) in
+    elim c.serve_notice.ensures.done [
+      | inl moved ↦ subst AreWhole (sym (c.serve_notice.ensures.members moved)) mid
+      | inr died ↦ whole-fallen c.put_member.new.members.items _ c.args.at n (c.serve_notice.ensures.died died n (ap (λ (ms : List Member). slice_get ms c.args.at) (c.put_member.ensures ∙ c.take_present.ensures.rest _) ∙ set-found c.args.at c.args.self.now.members.items (member_of c.in-Some.present) (record { left = c.go_on_from-turned.new.left; total = c.in-Some.present.total; phase = c.go_on_from-turned.result.phase; life = c.in-Some.present.life }) c.in-Some.ensures.taken)) mid
+    ]
+
+pub returns-in-Die-clause-unbroken : goal.returns-in-Die-clause-unbroken
+returns-in-Die-clause-unbroken g c = λ none.
+    let n : Member = (record { left = c.go_on_from-turned.new.left; total = c.in-Some.present.total; phase = c.go_on_from-turned.result.phase; life = c.in-Some.present.life }) in
+    whole-broken c.args.self.now.members.items _ c.args.at n
+    (c.fall.ensures.died n (ap (λ (ms : List Member). slice_get ms c.args.at) (c.put_member.ensures ∙ c.take_present.ensures.rest _) ∙ set-found c.args.at c.args.self.now.members.items (member_of c.in-Some.present) (record { left = c.go_on_from-turned.new.left; total = c.in-Some.present.total; phase = c.go_on_from-turned.result.phase; life = c.in-Some.present.life }) c.in-Some.ensures.taken) ∙ ap (λ (ms : List Member). slice_set ms c.args.at (with_life Dead n)) (c.put_member.ensures ∙ c.take_present.ensures.rest _)) c.requires.unbroken
+
+pub returns-in-None-clause-unbroken : goal.returns-in-None-clause-unbroken
+returns-in-None-clause-unbroken g c = λ none. absurd (false≢true (sym (ap is_some none) ∙ c.stop.ensures.halted))

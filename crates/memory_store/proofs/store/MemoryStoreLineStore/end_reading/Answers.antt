@@ -2,11 +2,11 @@ use Rattle.std.proofs.Common.{refl}
 use Rattle.line_store.specs.Seats.{outside}
 use Rattle.line_store.specs.Calls.{Moves}
 use Rattle.memory_store.specs.declared.seat.Seat.TheVariants.{Outside}
-use Rattle.memory_store.proofs.Seating.{moves}
+use Rattle.memory_store.proofs.Seating.{moves, copier-put}
 use Rattle.memory_store.proofs.Sighted.{moved}
 use Rattle.memory_store.proofs.store.MemoryStoreLineStore.end_reading.Goals as goal
 
 pub returns : goal.returns
 returns c =
     let goes = moves c.args.self.now c.put.new.self c.args.s.number Outside outside c.put.ensures.now c.put.ensures.here refl in
-    record { does = moved c.args.self.now c.put.new.self c.args.s.number outside outside (Moves c.args.s.number outside) goes refl goes }
+    record { does = moved c.args.self.now c.put.new.self c.args.s.number outside outside (Moves c.args.s.number outside) goes refl (copier-put c.args.self.now c.put.new.self c.args.s.number Outside c.put.ensures.now) refl goes }

@@ -1,0 +1,42 @@
+use Rattle.std.proofs.Common.{◌≡◌, [], refl}
+use Rattle.line_store.specs.Seats.{reading}
+use Rattle.line_store.specs.Calls.{Moves}
+use Rattle.change_steps.specs.disk_store.Seats.{stand_at}
+use Rattle.change_steps.specs.disk_store.Shown.{sight_of}
+use Rattle.change_steps.proofs.of_disk_store.Growing.{grow-same}
+use Rattle.store_copies.proofs.Plain.{leaves-none, stays-any}
+use Rattle.store_copies.proofs.Sighted.{none-outside}
+use Rattle.disk_line_store.proofs.Calls.{Beside, beside-either, moved, on-err, on-ok, readers-beside}
+use Rattle.disk_line_store.proofs.store.DiskStoreLineStore.begin_reading.Goals as goal
+
+pub invariant_of-self : goal.invariant_of-self
+invariant_of-self g c =
+    let v = g.D.Disk.view c.args.self.now.disk in
+    let s = c.args.s.number in
+    let held = c.args.self.now.held in
+    let copies = c.args.self.now.copies in
+    let none = none-outside v held copies c.args.self.now.readers s c.requires.outside in
+    let behind = c.begin_reading-begun.new.held in
+    let beside : Beside s (sight_of v held) (sight_of v behind) = beside-either c.begin_reading-begun.result s (reading []) (stand_at held.members s) (λ h g. Moves s (reading h.now) h g) (λ h g. g ≡ h) (sight_of v held) (sight_of v behind) c.begin_reading-begun.ensures.ok c.begin_reading-begun.ensures.err in
+    record {
+      few = c.steps_are_few.ensures.all held.members beside.steps c.args.self.now.few;
+      readers = readers-beside v v held behind copies s none beside c.args.self.now.readers;
+    }
+
+pub returns-clause-ok : goal.returns-clause-ok
+returns-clause-ok g c =
+    let v = g.D.Disk.view c.args.self.now.disk in
+    let s = c.args.s.number in
+    let held = c.args.self.now.held in
+    let copies = c.args.self.now.copies in
+    let none = none-outside v held copies c.args.self.now.readers s c.requires.outside in
+    let behind = c.begin_reading-begun.new.held in
+    on-ok c.begin_reading-begun.result (λ does. moved v v held behind copies s none (leaves-none v) (grow-same held.tables behind.tables c.begin_reading-begun.ensures.tables) (reading []) (λ h. reading h.now) refl (λ h. refl) does) c.begin_reading-begun.ensures.ok
+
+pub returns-clause-err : goal.returns-clause-err
+returns-clause-err g c =
+    let v = g.D.Disk.view c.args.self.now.disk in
+    let s = c.args.s.number in
+    let held = c.args.self.now.held in
+    let behind = c.begin_reading-begun.new.held in
+    on-err c.begin_reading-begun.result (λ stays. stays-any v held behind c.args.self.now.copies s (grow-same held.tables behind.tables c.begin_reading-begun.ensures.tables) stays) c.begin_reading-begun.ensures.err

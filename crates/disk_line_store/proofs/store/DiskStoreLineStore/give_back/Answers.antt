@@ -1,0 +1,35 @@
+use Rattle.std.proofs.Common.{[], refl, ap}
+use Rattle.line_store.specs.Seats.{writing, given_back}
+use Rattle.line_store.specs.Calls.{Moves}
+use Rattle.change_steps.specs.disk_store.Shown.{sight_of}
+use Rattle.change_steps.proofs.of_disk_store.Growing.{grow-same}
+use Rattle.store_copies.specs.Memory.{copied_by}
+use Rattle.store_copies.proofs.Plain.{leaves-none}
+use Rattle.store_copies.proofs.Seated.{seat-with}
+use Rattle.store_copies.proofs.Sighted.{none-prepared}
+use Rattle.disk_line_store.proofs.Calls.{Beside, beside-of, moved, readers-beside}
+use Rattle.disk_line_store.proofs.store.DiskStoreLineStore.give_back.Goals as goal
+
+pub invariant_of-self : goal.invariant_of-self
+invariant_of-self g c =
+    let v = g.D.Disk.view c.args.self.now.disk in
+    let s = c.args.s.number in
+    let held = c.args.self.now.held in
+    let copies = c.args.self.now.copies in
+    let none = none-prepared v held copies c.args.self.now.readers s c.requires.prepared in
+    let behind = c.give_back.new.held in
+    let beside : Beside s (sight_of v held) (sight_of v behind) = beside-of s (writing []) (λ h g. Moves s (given_back (h.seat s)) h g) (sight_of v held) (sight_of v behind) c.give_back.ensures.does in
+    record {
+      few = c.steps_are_few.ensures.all held.members beside.steps c.args.self.now.few;
+      readers = readers-beside v v held behind copies s none beside c.args.self.now.readers;
+    }
+
+pub returns : goal.returns
+returns g c =
+    let v = g.D.Disk.view c.args.self.now.disk in
+    let s = c.args.s.number in
+    let held = c.args.self.now.held in
+    let copies = c.args.self.now.copies in
+    let none = none-prepared v held copies c.args.self.now.readers s c.requires.prepared in
+    let behind = c.give_back.new.held in
+    record { does = moved v v held behind copies s none (leaves-none v) (grow-same held.tables behind.tables c.give_back.ensures.tables) (writing []) (λ h. given_back (h.seat s)) refl (λ h. ap given_back (seat-with (copied_by copies) h s none)) c.give_back.ensures.does }
