@@ -8,17 +8,15 @@ ghost use Rattle.stage_steps.specs.Leaving.{IsLeftFor};
 ghost use Rattle.stage_steps.specs.Scenes.{BacksIn, ComesIn, TakesUpIn, scene};
 ghost use Rattle.stage_steps.specs.Turns.{reads_at};
 
+use crate::begun::{begun, unbegun};
 use crate::happening::{Happening, Turned, failed, quiet};
-use crate::items::refused;
 use crate::storing::work_on;
 use crate::terms::ReaderTerms;
 use line_store::{LineStore, Progress};
-use line_view::Known;
 use rdb_types::Session;
-use rdo_ast::reply::{Reply, Standing};
 use rdo_ast::syntax::Item;
 use session_jobs::Statements;
-use session_limits::{Phase, Reader, ReaderStage, ReaderWork};
+use session_limits::{Phase, ReaderStage, ReaderWork};
 use std::alloc::Global;
 
 /// Begins an online backup, the store's copying of the lines that are committed now.
@@ -37,19 +35,8 @@ pub(crate) fn begin_copying<S: Statements, L: LineStore>(
     ensures cause { (word : List ℕ) → IsLeftFor S.leaves word item result.happened }
 {
     match store.begin_copy(s, number) {
-        Ok(()) => Turned {
-            phase: Phase::Reading(Reader {
-                standing: Standing::Closed,
-                known: Known::new(alloc),
-                spoken: false,
-                stage: ReaderStage::Working(item, ReaderWork::Copying),
-            }),
-            happened: Happening::Began(Standing::ReadOnly),
-        },
-        Err(_) => Turned {
-            phase: Phase::Outside,
-            happened: Happening::Answered(refused(alloc, item, Reply::NoMemory)),
-        },
+        Ok(()) => begun(alloc, item, ReaderWork::Copying),
+        Err(_) => unbegun(alloc, item),
     }
 }
 

@@ -3,6 +3,7 @@
 #![tactic(auto)]
 
 mod asks;
+mod begun;
 mod calling;
 mod common;
 mod copying;

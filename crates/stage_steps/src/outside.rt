@@ -14,6 +14,7 @@ ghost use Rattle.stage_steps.specs.Nearer.{Nearer};
 ghost use Rattle.stage_steps.specs.Scenes.{ComesIn, TakesUpIn, scene};
 ghost use Rattle.stage_steps.specs.Turns.{TakesUp};
 
+use crate::begun::{begun, unbegun};
 use crate::copying::begin_copying;
 use crate::happening::{Answer, Happening, Turned, failed, quiet};
 use crate::items::{backed_up, is_nowait, kind_begun, refused, writes};
@@ -24,7 +25,7 @@ use rdb_types::{Copied, Session, Word};
 use rdo_ast::reply::{Reply, Standing};
 use rdo_ast::syntax::Item;
 use session_jobs::{Answer as Worked, Found, Job, Statements};
-use session_limits::{Phase, Reader, ReaderStage, ReaderWork, Stage, Work, Writer};
+use session_limits::{Phase, ReaderWork, Stage, Work, Writer};
 use std::alloc::Global;
 
 /// Answers an item that begins no transaction: it is worked over nothing that is known, and reads nothing.
@@ -101,38 +102,8 @@ fn begin_reading<S: Statements, L: LineStore>(
     ensures cause { (word : List ℕ) → IsLeftFor S.leaves word item result.happened }
 {
     match store.begin_reading(s) {
-        Ok(()) => Turned {
-            phase: Phase::Reading(Reader {
-                standing: Standing::Closed,
-                known: Known::new(alloc),
-                spoken: false,
-                stage: ReaderStage::Working(item, ReaderWork::Due),
-            }),
-            happened: Happening::Began(Standing::ReadOnly),
-        },
-        Err(_) => Turned {
-            phase: Phase::Outside,
-            happened: Happening::Answered(refused(alloc, item, Reply::NoMemory)),
-        },
-    }
-}
-
-/// Begins a read-only transaction with its first item: an online backup, or what reads.
-fn begin_looking<S: Statements, L: LineStore>(
-    alloc: Global,
-    store: &mut L,
-    s: Session,
-    item: Item,
-) -> Turned
-    requires member { IsMember s.number }
-    requires seat { (L.sight store.old).stand s.number ≡ outside }
-    requires kind { begins (uttered_of item) ≡ Some Standing.ReadOnly }
-    ensures begins { (word : List ℕ) (locks : State) → TakesUpIn S.stands s.number item (scene word (L.sight store.old) locks) Phase.Outside (scene word (L.sight store.new) locks) result.phase result.happened }
-    ensures cause { (word : List ℕ) → IsLeftFor S.leaves word item result.happened }
-{
-    match backed_up(&item) {
-        Some(number) => begin_copying::<S, L>(alloc, store, s, item, number),
-        None => begin_reading::<S, L>(alloc, store, s, item),
+        Ok(()) => begun(alloc, item, ReaderWork::Due),
+        Err(_) => unbegun(alloc, item),
     }
 }
 
@@ -154,18 +125,17 @@ pub fn start<S: Statements, L: LineStore>(
         Ok(Some(kind)) => {
             if writes(&kind) {
                 begin_writing::<S, L>(alloc, store, s, item, kind)
+            } else if let Some(number) = backed_up(&item) {
+                begin_copying::<S, L>(alloc, store, s, item, number)
             } else {
-                begin_looking::<S, L>(alloc, store, s, item)
+                begin_reading::<S, L>(alloc, store, s, item)
             }
         }
         Ok(None) => Turned {
             phase: Phase::Outside,
             happened: answer_outside::<S>(alloc, word, item),
         },
-        Err(_) => Turned {
-            phase: Phase::Outside,
-            happened: Happening::Answered(refused(alloc, item, Reply::NoMemory)),
-        },
+        Err(_) => unbegun(alloc, item),
     }
 }
 

@@ -38,9 +38,7 @@ pub fn begin_copy<D: Disk>(
     held.sound();
     let limits = held.limits();
     let last_group = held.next_group().number.saturating_sub(1).min(LAST_GROUP);
-    let Ok(()) = begin_reading(disk, held, s) else {
-        return Err(NoMemory {});
-    };
+    begin_reading(disk, held, s)?;
     copies.note_last(s, number);
     copies.set(s, Some(Copying::start(disk, number, limits, last_group)));
     Ok(())

@@ -13,11 +13,11 @@ use Rattle.stage_steps.proofs.copying.begin_copying.Goals as goal
 
 pub returns-in-Ok-clause-begins : goal.returns-in-Ok-clause-begins
 returns-in-Ok-clause-begins g c word locks =
-    rw c.new.ensures (goes c.args.s.number Outside Alive _ Alive _ _ _ _ _
+    rw c.begun.ensures.phase (rw c.begun.ensures.happened (goes c.args.s.number Outside Alive _ Alive _ _ _ _ _
     (λ e f. record { seat = e ∙ sym (ap (λ (n : Option ℕ). seat_of_reader n []) c.requires.asked); wants = f.wants; beside = f.beside; needs = f.needs; statement = ap is_some c.requires.asked }) (λ u other. refl) (nearer-taken-up c.args.s.number _ _ _ _ c.args.item refl (omega arith))
     (λ h k shown told r dead left total. begins-to-copy g.S.Statements.stands g.met.S.Statements.orderly c.args.s.number (shared word h locks dead) k c.args.item left total c.args.number (backup-is _ c.args.number c.requires.asked) r)
-    c.in-Ok.ensures.ok)
+    c.in-Ok.ensures.ok))
 
 pub returns-in-Err-clause-begins : goal.returns-in-Err-clause-begins
 returns-in-Err-clause-begins g c word locks =
-    rw c.refused.ensures (goes-staying c.args.s.number Outside word locks _ _ _ c.in-Err.ensures.err (nearer-said c.args.s.number _ _ _ _ c.args.item refl) (λ h dead left total. forgoes-outside g.S.Statements.stands g.met.S.Statements.orderly c.args.s.number (shared word h locks dead) c.args.item left total))
+    rw c.unbegun.ensures.phase (rw c.unbegun.ensures.happened (goes-staying c.args.s.number Outside word locks _ _ _ c.in-Err.ensures.err (nearer-said c.args.s.number _ _ _ _ c.args.item refl) (λ h dead left total. forgoes-outside g.S.Statements.stands g.met.S.Statements.orderly c.args.s.number (shared word h locks dead) c.args.item left total)))

@@ -6,11 +6,11 @@ use Rattle.store_copies.proofs.Begins.{does-begin-copy, reading-at}
 use Rattle.store_copies.proofs.Plain.{leaves-none, stays-with}
 use Rattle.store_copies.proofs.beginning.begin_copy.Goals as goal
 
-pub returns-in_default-clause-err : goal.returns-in_default-clause-err
-returns-in_default-clause-err g c =
+pub returns-in_err-begin_reading-clause-err : goal.returns-in_err-begin_reading-clause-err
+returns-in_err-begin_reading-clause-err g c =
     let v = g.D.Disk.view c.args.disk.now in
     stays-with v v c.args.held.now c.begin_reading.new.held c.args.copies.now c.args.s.number c.requires.none (leaves-none v)
-    (grow-same c.args.held.now.tables c.begin_reading.new.held.tables c.begin_reading.ensures.tables) (ap (λ (x : Seat). begun x x) c.requires.outside) c.in_default.ensures.err
+    (grow-same c.args.held.now.tables c.begin_reading.new.held.tables c.begin_reading.ensures.tables) (ap (λ (x : Seat). begun x x) c.requires.outside) c.in_err-begin_reading.ensures.err
 
 pub returns-clause-ok : goal.returns-clause-ok
 returns-clause-ok g c =
@@ -20,13 +20,13 @@ returns-clause-ok g c =
     (λ t. c.set.ensures.copied t ∙ ap (λ (x : Option Copying). if t == s then Some c.start.result else x) (c.note_last.ensures.copied t))
     (λ n. c.set.ensures.numbers n ∙ c.note_last.ensures.numbers n)
     (ap (λ (x : Copying). x.backup.number) c.start.ensures.made) (ap (λ (x : Copying). x.backup.limits) c.start.ensures.made ∙ c.limits-limits.ensures) c.sound.ensures.allowed.limited
-    c.begin_reading.ensures.tables c.start.ensures.begun c.requires.outside c.in-Ok.ensures.ok
+    c.begin_reading.ensures.tables c.start.ensures.begun c.requires.outside c.in_ok-begin_reading.ensures.ok
 
 pub returns-clause-reads : goal.returns-clause-reads
-returns-clause-reads g c = reading-at c.begin_reading.new.held.members c.args.s.number c.in-Ok.ensures.ok.mine
+returns-clause-reads g c = reading-at c.begin_reading.new.held.members c.args.s.number c.in_ok-begin_reading.ensures.ok.mine
 
-pub returns-in_default-clause-leaves : goal.returns-in_default-clause-leaves
-returns-in_default-clause-leaves g c = record { stand = λ t apart. c.in_default.ensures.err.others t apart; steps = λ t apart. c.in_default.ensures.err.steps t apart }
+pub returns-in_err-begin_reading-clause-leaves : goal.returns-in_err-begin_reading-clause-leaves
+returns-in_err-begin_reading-clause-leaves g c = record { stand = λ t apart. c.in_err-begin_reading.ensures.err.others t apart; steps = λ t apart. c.in_err-begin_reading.ensures.err.steps t apart }
 
 pub returns-clause-leaves : goal.returns-clause-leaves
-returns-clause-leaves g c = record { stand = λ t apart. c.in-Ok.ensures.ok.others t apart; steps = λ t apart. c.in-Ok.ensures.ok.steps t apart }
+returns-clause-leaves g c = record { stand = λ t apart. c.in_ok-begin_reading.ensures.ok.others t apart; steps = λ t apart. c.begin_reading-ok.ensures.ok.steps t apart }
