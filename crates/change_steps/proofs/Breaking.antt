@@ -10,7 +10,7 @@ use Rattle.line_view.specs.Knowledge.{Lines}
 use Rattle.line_store.specs.Seats.{in_flight, failed_at}
 use Rattle.line_store.specs.Shelves.{Shelf, Space}
 use Rattle.line_store.specs.Calls.{Moves, Fails, KeepsSpace}
-use Rattle.line_store.specs.Sights.{bare, Does}
+use Rattle.line_store.specs.Sights.{bare}
 use Rattle.line_store.specs.declared.answers.Fault.{Fault}
 use Rattle.line_store.specs.declared.answers.Fault.TheVariants.{Failed, Bad}
 use Rattle.line_store.proofs.Causes.{cause-of}
@@ -29,7 +29,7 @@ use Rattle.disk_store.specs.Memory.{StoreMemory}
 use Rattle.disk_store.specs.Numbers.{kept_in}
 use Rattle.disk_store.specs.Seats.{seat_with, stand_of, stand_at}
 use Rattle.disk_store.specs.Standing.{HasBegun, IsBroken, IsJournalling, StageStands}
-use Rattle.disk_store.specs.Shown.{NumbersStand, TablesStand, WaitsAs, AreUnused, HaveStarts, Shown, sight_of}
+use Rattle.disk_store.specs.Shown.{DoesOn, NumbersStand, TablesStand, WaitsAs, AreUnused, HaveStarts, Shown}
 use Rattle.disk_store.proofs.Moving.{itself}
 use Rattle.disk_store.proofs.Beside.{SameAreas, SameHeaders, StaysOf, stays-there}
 use Rattle.disk_store.proofs.Stepping.{ComesTo, Becomes, does-step}
@@ -118,13 +118,13 @@ module _ (v w : View) (held behind : StoreMemory) (s : ℕ) (m n : Member) (was 
   seated start = ap (λ x. seat_with x (writes_in n.written.lines) start) breaks ∙ ap (λ w. seat_with stage.Broken (writes_in w.lines) start) same ∙ ap (λ x. failed_at (seat_with x (writes_in m.written.lines) start)) (sym at)
 
   -- it can only end
-  pub does-broken : (R : Shelf → Shelf → Type 0) → ((h g : Shelf) → Shown v held h → Moves s (failed_at (h.seat s)) h g → h.clock.faults ≡ v.faults → g.clock.faults ≡ w.faults → R h g) → Does s (failed_at (stand_at held.members s)) R (sight_of v held) (sight_of w behind)
-  does-broken R as-asked = subst (λ x. Does s (failed_at (stand_of x)) R (sight_of v held) (sight_of w behind)) (sym was)
+  pub does-broken : (R : Shelf → Shelf → Type 0) → ((h g : Shelf) → Shown v held h → Moves s (failed_at (h.seat s)) h g → h.clock.faults ≡ v.faults → g.clock.faults ≡ w.faults → R h g) → DoesOn s (failed_at (stand_at held.members s)) R v held w behind
+  does-broken R as-asked = subst (λ x. DoesOn s (failed_at (stand_of x)) R v held w behind) (sym was)
       (does-step v w held behind s m n was becomes (λ e. let bad : stage.Broken ≡ stage.Reading = sym breaks ∙ e in cc) told leaves to-broken later no-fewer (failed_at (stand_of (Some m))) R (ap (λ x. bare (seat_with x [] [])) breaks ∙ sym (ap (λ x. bare (failed_at (seat_with x [] []))) at))
-      still (λ h shown stands. record { lines = refl; commit = refl }) keeps-space
+      still (λ h shown stands. record { lines = refl; journal = refl; commit = refl }) keeps-space
       (λ h g start related moves. as-asked h g related.shown (subst (λ seat. Moves s seat h g) (seated start ∙ ap failed_at (sym related.seat)) moves) related.shown.lines.faults related.faults_behind))
 
-  pub does-break : (fault : Fault) → (fault ≡ Failed → Rose v.faults w.faults) → ((h : Shelf) → Shown v held h → (file : FileId) (slot : ℕ) → fault ≡ Bad file slot → ⊥) → Does s (failed_at (stand_at held.members s)) (λ h g. Fails s fault h g) (sight_of v held) (sight_of w behind)
+  pub does-break : (fault : Fault) → (fault ≡ Failed → Rose v.faults w.faults) → ((h : Shelf) → Shown v held h → (file : FileId) (slot : ℕ) → fault ≡ Bad file slot → ⊥) → DoesOn s (failed_at (stand_at held.members s)) (λ h g. Fails s fault h g) v held w behind
   does-break fault rose good = does-broken (λ h g. Fails s fault h g) (λ h g shown moves before after. record {
     moves = moves;
     cause = cause-of fault h.clock g.clock v.faults w.faults rose (λ file slot is. absurd (good h shown file slot is)) before after;

@@ -9,7 +9,7 @@ use Rattle.line_view.specs.Knowledge.{Lines}
 use Rattle.line_store.specs.Seats.{Seat, in_flight, done_at}
 use Rattle.line_store.specs.Shelves.{Shelf}
 use Rattle.line_store.specs.Calls.{IsDone}
-use Rattle.line_store.specs.Sights.{seat_or, Does}
+use Rattle.line_store.specs.Sights.{seat_or}
 use Rattle.line_moves.specs.Lines.{ChangedLines}
 use Rattle.disk_seats.specs.Ledgers.{changing, Ledger}
 use Rattle.ledger_versions.specs.Readers.{AreAlike, HasVersionOf, ReaderFacts, set_waiting}
@@ -22,7 +22,7 @@ use Rattle.disk_store.specs.ChangeSteps.{change_ended, written_now}
 use Rattle.disk_store.specs.Memory.{StoreMemory}
 use Rattle.disk_store.specs.Seats.{seat_with, stand_of, stand_at}
 use Rattle.disk_store.specs.Standing.{HasBegun, HasJournalled, IsJournalling, StageStands}
-use Rattle.disk_store.specs.Shown.{WaitPushed, WaitsAs, Shown, sight_of}
+use Rattle.disk_store.specs.Shown.{DoesOn, WaitPushed, WaitsAs, Shown}
 use Rattle.disk_store.specs.Sound.{IsSound}
 use Rattle.disk_store.proofs.Moving.{itself}
 use Rattle.disk_store.proofs.Members.{get-within}
@@ -132,9 +132,9 @@ module _ (v : View) (held : StoreMemory) (s : ℕ) (m : Member) (was : slice_get
   done : (ws : List Write) (start : Lines) → done_at (seat_with m.stage ws start) ≡ Some (seat_with stage.Writing ws start)
   done ws start = ap (λ x. done_at (seat_with x ws start)) at
 
-  pub does-written : Does s (seat_or (stand_at held.members s) (done_at (stand_at held.members s))) (λ h g. IsDone s h g) (sight_of v held) (sight_of v behind)
-  does-written = subst (λ (x : Option Member). Does s (seat_or (stand_of x) (done_at (stand_of x))) (λ h g. IsDone s h g) (sight_of v held) (sight_of v behind)) (sym was)
-      (subst (λ (x : Option Seat). Does s (seat_or (stand_of (Some m)) x) (λ h g. IsDone s h g) (sight_of v held) (sight_of v behind)) (sym (done [] []))
+  pub does-written : DoesOn s (seat_or (stand_at held.members s) (done_at (stand_at held.members s))) (λ h g. IsDone s h g) v held v behind
+  does-written = subst (λ (x : Option Member). DoesOn s (seat_or (stand_of x) (done_at (stand_of x))) (λ h g. IsDone s h g) v held v behind) (sym was)
+      (subst (λ (x : Option Seat). DoesOn s (seat_or (stand_of (Some m)) x) (λ h g. IsDone s h g) v held v behind) (sym (done [] []))
       (does-step v v held behind s m n was becomes (λ e. cc) refl (none-leaves v) to-written (omega arith) (omega arith) (seat_with stage.Writing [] []) (λ h g. IsDone s h g) refl
-      still (λ h shown stands. record { lines = refl; commit = refl }) (λ space. keeps-less held.slots behind.slots space)
+      still (λ h shown stands. record { lines = refl; journal = refl; commit = refl }) (λ space. keeps-less held.slots behind.slots space)
       (λ h g start related moves. record { seat = seat_with stage.Writing (writes_in m.written.lines) start; comes = ap done_at related.seat ∙ done (writes_in m.written.lines) start; moves = moves })))

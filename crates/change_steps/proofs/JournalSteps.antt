@@ -18,7 +18,6 @@ use Rattle.line_store.specs.Shelves.{Shelf}
 use Rattle.line_store.specs.Calls.{Moves, GoesOn, Fails}
 use Rattle.line_store.specs.declared.answers.Fault.{Fault}
 use Rattle.line_store.specs.declared.answers.Fault.TheVariants.{Failed, Bad}
-use Rattle.line_store.specs.Sights.{Does}
 use Rattle.stable_lines.specs.Slots.{Undo, ruj_file, line_at, named}
 use Rattle.stable_lines.specs.Image.{IsNoneOf}
 use Rattle.stable_lines.specs.Progress.{Open}
@@ -33,7 +32,7 @@ use Rattle.disk_store.specs.declared.member.MemberStage.TheVariants as stage
 use Rattle.disk_store.specs.Memory.{StoreMemory, at_stage, with_member}
 use Rattle.disk_store.specs.Seats.{seat_with, stand_of, stand_at, steps_in}
 use Rattle.disk_store.specs.Standing.{HasBegun, IsJournalling, StageStands}
-use Rattle.disk_store.specs.Shown.{Sits, SitsAs, WaitPushed, WaitsAs, Shown, sight_of}
+use Rattle.disk_store.specs.Shown.{DoesOn, Sits, SitsAs, WaitPushed, WaitsAs, Shown}
 use Rattle.disk_store.specs.Sound.{IsSound}
 use Rattle.disk_store.specs.ChangeSteps.{named_now, journalled_more}
 use Rattle.disk_store.proofs.Moving.{itself}
@@ -125,12 +124,12 @@ module _ (v w : View) (held : StoreMemory) (s : ℕ) (m : Member) (was : slice_g
     journals-named : (g : Ledger) → IsTrue v.tells → HasBegun g s m → IsJournalling w g s n
     journals-named g t has = record { begun = begun-named g has; header = λ noted. names t }
 
-    pub does-name : Does s (stand_at held.members s) (λ h g. GoesOn s h g) (sight_of v held) (sight_of w (with_member s n held))
-    does-name = subst (λ x. Does s (stand_of x) (λ h g. GoesOn s h g) (sight_of v held) (sight_of w (with_member s n held))) (sym was)
+    pub does-name : DoesOn s (stand_at held.members s) (λ h g. GoesOn s h g) v held w (with_member s n held)
+    does-name = subst (λ x. DoesOn s (stand_of x) (λ h g. GoesOn s h g) v held w (with_member s n held)) (sym was)
         (does-step v w held (record (with_member s n held) { numbers = held.numbers }) s m n was (becomes-member held held.numbers s n) plain only.told only.leaves
         (λ h shown stands. same-ledger v w (passes shown.tells) held s n h shown (headers-beside v w s slot shown.tells only) (aside-ceiling v w shown.tells (ruj_file s) slot (λ e. cc) only held.numbers shown.numbers.ceiling) (kept-stays held.members s held.numbers.next held.numbers.written m n was (omega arith) shown.kept) (facts h shown (has-begun shown.ledger stands))
         (subst (λ x. StageStands x w shown.ledger s n) (sym at) (journals-named shown.ledger shown.tells (has-begun shown.ledger stands))) (subst (λ x. WaitsAs x shown.versions.waiting s n) (sym at) (subst (λ x. WaitsAs x shown.versions.waiting s m) at (shown.versions.waits s m was))))
-        only.later only.no_fewer (stand_of (Some m)) (λ h g. GoesOn s h g) refl still (λ h shown stands. record { lines = refl; commit = refl }) space-same
+        only.later only.no_fewer (stand_of (Some m)) (λ h g. GoesOn s h g) refl still (λ h shown stands. record { lines = refl; journal = refl; commit = refl }) space-same
         (λ h g start related moves. record { moves = subst (λ x. Moves s x h g) (sym related.seat) moves; less = let new = related.steps_behind in let old = related.steps in let less = named-less in omega (arith, new, old, less) }))
 
   -- ---- a before-image
@@ -237,10 +236,10 @@ module _ (v w : View) (held : StoreMemory) (s : ℕ) (m : Member) (was : slice_g
         unused = shown.versions.unused;
       }
 
-    pub does-journal : Does s (stand_at held.members s) (λ h g. GoesOn s h g) (sight_of v held) (sight_of w (with_member s more held))
-    does-journal = subst (λ x. Does s (stand_of x) (λ h g. GoesOn s h g) (sight_of v held) (sight_of w (with_member s more held))) (sym was)
+    pub does-journal : DoesOn s (stand_at held.members s) (λ h g. GoesOn s h g) v held w (with_member s more held)
+    does-journal = subst (λ x. DoesOn s (stand_of x) (λ h g. GoesOn s h g) v held w (with_member s more held)) (sym was)
         (does-step v w held (record (with_member s more held) { numbers = held.numbers }) s m more was (becomes-member held held.numbers s more) plain only.told only.leaves to-more
-        only.later only.no_fewer (stand_of (Some m)) (λ h g. GoesOn s h g) refl still (λ h shown stands. record { lines = refl; commit = refl }) space-same
+        only.later only.no_fewer (stand_of (Some m)) (λ h g. GoesOn s h g) refl still (λ h shown stands. record { lines = refl; journal = refl; commit = refl }) space-same
         (λ h g start related moves. record { moves = subst (λ x. Moves s x h g) (sym related.seat) moves; less = let new = related.steps_behind in let old = related.steps in let less = more-less in omega (arith, new, old, less) }))
 
   -- ---- a fault
@@ -273,11 +272,11 @@ module _ (v w : View) (held : StoreMemory) (s : ℕ) (m : Member) (was : slice_g
       | inr broke ↦ broke
     ]
 
-    pub does-fault : (fault : Fault) → (fault ≡ Failed → Rose v.faults w.faults) → ((h : Shelf) → Shown v held h → (file : FileId) (slot : ℕ) → fault ≡ Bad file slot → ⊥) → Does s (failed_at (stand_at held.members s)) (λ h g. Fails s fault h g) (sight_of v held) (sight_of w (with_member s b held))
+    pub does-fault : (fault : Fault) → (fault ≡ Failed → Rose v.faults w.faults) → ((h : Shelf) → Shown v held h → (file : FileId) (slot : ℕ) → fault ≡ Bad file slot → ⊥) → DoesOn s (failed_at (stand_at held.members s)) (λ h g. Fails s fault h g) v held w (with_member s b held)
     does-fault fault rose good = does-break v w held behind-fault s m b was at (becomes-member held held.numbers s b) refl refl refl only.told only.leaves only.later only.no_fewer broken-now stays-shown space-same fault rose good
 
     -- a header that was written stands: it isn't written again
-    pub does-unnamed : (file : FileId) (i : ℕ) → m.named ≡ true → (IsTrue v.tells → named (v.content (ruj_file s) 0) ≢ m.tsn.number) → Does s (failed_at (stand_at held.members s)) (λ h g. Fails s (Bad file i) h g) (sight_of v held) (sight_of w (with_member s b held))
+    pub does-unnamed : (file : FileId) (i : ℕ) → m.named ≡ true → (IsTrue v.tells → named (v.content (ruj_file s) 0) ≢ m.tsn.number) → DoesOn s (failed_at (stand_at held.members s)) (λ h g. Fails s (Bad file i) h g) v held w (with_member s b held)
     does-unnamed file i noted another = does-fault (Bad file i) (λ e. let bad : Bad file i ≡ Failed = e in cc) (λ h shown f k is. another shown.tells ((is-journalling shown.ledger (sat h shown).stands).header noted))
       where
         sat : (h : Shelf) (shown : Shown v held h) → SitsAs v shown.ledger s m (h.seat s)

@@ -10,7 +10,6 @@ use Rattle.rdb_outside.specs.Disk.{View, IsPending}
 use Rattle.rdb_outside.specs.Runs.{no_calls}
 use Rattle.line_store.specs.Shelves.{Shelf}
 use Rattle.line_store.specs.Calls.{GoesOn}
-use Rattle.line_store.specs.Sights.{Does}
 use Rattle.line_versions.specs.Versions.{snap_of}
 use Rattle.line_versions.specs.Files.{entries_in}
 use Rattle.line_versions.specs.Course.{IsChanged}
@@ -20,7 +19,7 @@ use Rattle.disk_store.specs.declared.member.MemberStage.TheVariants as stage
 use Rattle.disk_store.specs.ChangeSteps.{IsNext, PassesNext, PushesNext, Unpushed, pushed_more, with_spent}
 use Rattle.disk_store.specs.Memory.{StoreMemory, with_member}
 use Rattle.disk_store.specs.Seats.{stand_at, steps_at}
-use Rattle.disk_store.specs.Shown.{IsUnused, Shown, sight_of}
+use Rattle.disk_store.specs.Shown.{DoesOn, IsUnused, Shown}
 use Rattle.disk_store.specs.Sound.{IsSound, IsUsedIn}
 use Rattle.disk_store.proofs.SlotsSound.{found-key}
 use Rattle.disk_store.proofs.Members.{get-within}
@@ -68,7 +67,7 @@ module _ (v w : View) (held behind : StoreMemory) (s : ℕ) (key : Dbkey) (chang
       (pushed-fewer m n at refl refl refl refl pushes.rechains.keys (get-within m.written.keys m.pushed key is))
 
   module _ (sound : IsSound held) (now : IsTrue v.tells → IsPending v v.content) where
-    by : (k : ℕ) → pushes.chain ≡ k → Does s (stand_at held.members s) (λ h g. GoesOn s h g) (sight_of v held) (sight_of w new)
+    by : (k : ℕ) → pushes.chain ≡ k → DoesOn s (stand_at held.members s) (λ h g. GoesOn s h g) v held w new
     by zero none = does-pass v w held new s m n pushes.was sound at all key is pushes.chain refl refl refl refl refl pushes.rechains.keys pushes.rechains.line pushes.rechains.same refl refl refl refl refl fewer now
         (pushes.takes.reads none) none (λ h shown ended. let never = pushes.stands.never none shown.tells in record { never = never.0; none = never.1 }) (pushes.takes.keeps none)
     by (suc k) more =
@@ -77,8 +76,8 @@ module _ (v w : View) (held behind : StoreMemory) (s : ℕ) (key : Dbkey) (chang
         pushes.takes.writes some (λ h shown. pushes.takes.free v.content shown.versions.course.followed held.limits.snaps shown.versions.slots some) (pushes.stands.stands some)
         (λ h shown ended goes. pushes.stands.held some shown.tells shown.ledger.base shown.versions.course held.limits.snaps shown.versions.slots ended goes shown.versions.readers.versions)
 
-    pub does-next-push : Does s (stand_at held.members s) (λ h g. GoesOn s h g) (sight_of v held) (sight_of w behind)
-    does-next-push = subst (λ (x : StoreMemory). Does s (stand_at held.members s) (λ h g. GoesOn s h g) (sight_of v held) (sight_of w x)) (sym pushes.is) (by pushes.chain refl)
+    pub does-next-push : DoesOn s (stand_at held.members s) (λ h g. GoesOn s h g) v held w behind
+    does-next-push = subst (λ (x : StoreMemory). DoesOn s (stand_at held.members s) (λ h g. GoesOn s h g) v held w x) (sym pushes.is) (by pushes.chain refl)
 
 -- ---- without a slot
 
@@ -114,7 +113,7 @@ module _ (v : View) (held behind : StoreMemory) (s : ℕ) (key : Dbkey) (changes
       let lies = (sound.each s passed-m passes.was).lies key found.0 found.1 in
       (lies.place.file, lies.is.owner)
 
-  pub does-next-pass : IsSound held → (IsTrue v.tells → IsPending v v.content) → Does s (stand_at held.members s) (λ h g. GoesOn s h g) (sight_of v held) (sight_of v behind)
-  does-next-pass sound now = subst (λ (x : StoreMemory). Does s (stand_at held.members s) (λ h g. GoesOn s h g) (sight_of v held) (sight_of v x)) (sym passes.is)
+  pub does-next-pass : IsSound held → (IsTrue v.tells → IsPending v v.content) → DoesOn s (stand_at held.members s) (λ h g. GoesOn s h g) v held v behind
+  does-next-pass sound now = subst (λ (x : StoreMemory). DoesOn s (stand_at held.members s) (λ h g. GoesOn s h g) v held v x) (sym passes.is)
       (does-pass v v held (with_member s passed-n held) s passed-m passed-n passes.was sound (its-stage held s key changes next passed-m passes.was) (all-in held s key changes next passed-m passes.was) key passed-is 0 refl refl refl refl refl passes.rechains.keys passes.rechains.line passes.rechains.same refl refl refl refl refl (omega arith) now
       (no_calls v) refl (λ h shown ended. let file = its-file sound in unused-here v held h shown file.0 key file.1 (passes.never file.0) ended) refl)

@@ -9,7 +9,6 @@ use Rattle.rdb_outside.specs.Disk.{View}
 use Rattle.line_store.specs.Shelves.{Shelf}
 use Rattle.line_store.specs.Calls.{Fails}
 use Rattle.line_store.specs.Seats.{failed_at}
-use Rattle.line_store.specs.Sights.{Does}
 use Rattle.line_store.specs.declared.answers.Fault.{Fault}
 use Rattle.line_store.specs.declared.answers.Fault.TheVariants.{Failed, Bad}
 use Rattle.line_versions.specs.Versions.{Followed, snap_of}
@@ -28,7 +27,7 @@ use Rattle.disk_store.specs.ChangeSteps.{TakesAside, broken_off}
 use Rattle.disk_store.specs.Memory.{StoreMemory, with_member}
 use Rattle.disk_store.specs.Seats.{stand_at}
 use Rattle.disk_store.specs.Standing.{HasBegun}
-use Rattle.disk_store.specs.Shown.{Shown, sight_of}
+use Rattle.disk_store.specs.Shown.{DoesOn, Shown}
 use Rattle.disk_store.proofs.Kept.{kept-stays}
 use Rattle.disk_store.proofs.Stepping.{Becomes}
 use Rattle.disk_store.proofs.Passing.{header-beside, headers-all, passes-reads, aside-ceiling, slots-pass}
@@ -93,6 +92,6 @@ module _ (v w : View) (held : StoreMemory) (s : ℕ) (m : Member) (was : slice_g
     facts : HasBegun shown.ledger s m → LedgerFacts w (stands_as s broken shown.ledger)
     facts has = taken-broken w shown.ledger s m (subst IsTrue (sym takes.writes.told) shown.tells) has (snap-keeps v w (snap_of key) (chain - 1) shown.tells takes.writes shown.ledger shown.facts)
 
-  pub does-push-fail : (fault : Fault) → (fault ≡ Failed → Rose v.faults w.faults) → ((h : Shelf) → Shown v held h → (file : FileId) (slot : ℕ) → fault ≡ Bad file slot → ⊥) → Does s (failed_at (stand_at held.members s)) (λ h g. Fails s fault h g) (sight_of v held) (sight_of w behind)
+  pub does-push-fail : (fault : Fault) → (fault ≡ Failed → Rose v.faults w.faults) → ((h : Shelf) → Shown v held h → (file : FileId) (slot : ℕ) → fault ≡ Bad file slot → ⊥) → DoesOn s (failed_at (stand_at held.members s)) (λ h g. Fails s fault h g) v held w behind
   does-push-fail fault rose good = does-break v w held behind s m n was at becomes refl refl refl takes.writes.told takes.writes.leaves takes.writes.later takes.writes.no_fewer (λ h shown has. facts h shown has) (λ h shown. stays-shown h shown)
       (λ space. keeps-less held.slots slots space) fault rose good

@@ -12,7 +12,7 @@ use Rattle.line_view.specs.Knowledge.{Lines}
 use Rattle.line_store.specs.Seats.{in_flight}
 use Rattle.line_store.specs.Shelves.{Shelf}
 use Rattle.line_store.specs.Calls.{Moves, GoesOn}
-use Rattle.line_store.specs.Sights.{bare, Does}
+use Rattle.line_store.specs.Sights.{bare}
 use Rattle.line_versions.specs.Versions.{snap_of}
 use Rattle.line_versions.specs.Files.{entries_in, snap_file}
 use Rattle.line_versions.specs.Course.{Course, pushed}
@@ -39,7 +39,7 @@ use Rattle.disk_store.specs.Memory.{StoreMemory}
 use Rattle.disk_store.specs.Numbers.{kept_at, kept_in}
 use Rattle.disk_store.specs.Seats.{seat_with, stand_of, stand_at, steps_in}
 use Rattle.disk_store.specs.Standing.{HasBegun, IsJournalling, StageStands}
-use Rattle.disk_store.specs.Shown.{NumbersStand, TablesStand, WaitPushed, WaitsAs, AreUnused, IsUnused, Shown, pages_of, sight_of}
+use Rattle.disk_store.specs.Shown.{DoesOn, NumbersStand, TablesStand, WaitPushed, WaitsAs, AreUnused, IsUnused, Shown, pages_of}
 use Rattle.disk_store.specs.Sound.{IsSound}
 use Rattle.disk_store.proofs.Moving.{itself}
 use Rattle.disk_store.proofs.Members.{get-within}
@@ -240,10 +240,10 @@ module _ (v w : View) (held behind : StoreMemory) (s : ℕ) (m n : Member) (was 
           (subst (λ x. HoldsAll w.content course.followed x.snaps behind.slots) (sym limits-is) (holds h shown (ended h shown stands) (ap (λ (k : Tsn). shown.versions.course.going k.number) open-one.number ∙ shown.versions.readers.versions.goes s open-one.transaction open-one.is_open)))
           shown.versions.unused (λ r. refl)
 
-    pub does-push : Does s (stand_at held.members s) (λ h g. GoesOn s h g) (sight_of v held) (sight_of w behind)
-    does-push = subst (λ x. Does s (stand_of x) (λ h g. GoesOn s h g) (sight_of v held) (sight_of w behind)) (sym was)
+    pub does-push : DoesOn s (stand_at held.members s) (λ h g. GoesOn s h g) v held w behind
+    does-push = subst (λ x. DoesOn s (stand_of x) (λ h g. GoesOn s h g) v held w behind) (sym was)
         (does-step v w held behind s m n was becomes plain only.told only.leaves to-pushed only.later only.no_fewer (stand_of (Some m)) (λ h g. GoesOn s h g) there still
-        (λ h shown stands. record { lines = refl; commit = refl }) (λ space. keeps-less held.slots behind.slots space)
+        (λ h shown stands. record { lines = refl; journal = refl; commit = refl }) (λ space. keeps-less held.slots behind.slots space)
         (λ h g start related moves. goes-on h g start related.seat related.steps_behind related.steps moves))
 
   -- ---- it was never used
@@ -277,8 +277,8 @@ module _ (v w : View) (held behind : StoreMemory) (s : ℕ) (m n : Member) (was 
           (subst (λ x. HoldsAll w.content shown.versions.course.followed x.snaps behind.slots) (sym limits-is) (subst (λ x. HoldsAll w.content shown.versions.course.followed held.limits.snaps x) (sym slots-is) (slots-pass v w p shown.versions.course.followed held.limits.snaps held.slots shown.versions.slots)))
           shown.versions.unused (λ r. refl)
 
-    pub does-pass : Does s (stand_at held.members s) (λ h g. GoesOn s h g) (sight_of v held) (sight_of w behind)
-    does-pass = subst (λ x. Does s (stand_of x) (λ h g. GoesOn s h g) (sight_of v held) (sight_of w behind)) (sym was)
+    pub does-pass : DoesOn s (stand_at held.members s) (λ h g. GoesOn s h g) v held w behind
+    does-pass = subst (λ x. DoesOn s (stand_of x) (λ h g. GoesOn s h g) v held w behind) (sym was)
         (does-step v w held behind s m n was becomes plain reads.told (reads-leave v w reads) to-passed reads.later reads.no_fewer (stand_of (Some m)) (λ h g. GoesOn s h g) there still
-        (λ h shown stands. record { lines = refl; commit = refl }) (λ space. keeps-less held.slots behind.slots space)
+        (λ h shown stands. record { lines = refl; journal = refl; commit = refl }) (λ space. keeps-less held.slots behind.slots space)
         (λ h g start related moves. goes-on h g start related.seat related.steps_behind related.steps moves))

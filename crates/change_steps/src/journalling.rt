@@ -1,12 +1,12 @@
 // Before-images of a change are written.
 ghost use Rattle.std.specs.Prelude.{◌≡◌, Ok};
 ghost use Rattle.line_store.specs.Seats.{IsMember};
-ghost use Rattle.line_store.specs.Sights.{Does, IsLess, MayAnswer, Steps, stepped_to};
+ghost use Rattle.line_store.specs.Sights.{IsLess, MayAnswer, Steps, stepped_to};
 ghost use Rattle.line_store.specs.declared.answers.Stepped.TheVariants as stepped;
 ghost use Rattle.disk_store.specs.ChangeSteps.{Unjournalled};
 ghost use Rattle.disk_store.specs.OwnFiles.{WritesOwn};
 ghost use Rattle.disk_store.specs.Seats.{stand_at};
-ghost use Rattle.disk_store.specs.Shown.{sight_of};
+ghost use Rattle.disk_store.specs.Shown.{DoesOn, sight_of};
 
 use disk_store::{Held, MemberStage};
 use line_moves::{place_of, ruj_file};
@@ -24,8 +24,8 @@ pub(crate) fn journal_key<D: Disk>(
     requires member { IsMember s.number }
     requires changes { Unjournalled held.old.members s.number }
     ensures answers { MayAnswer (stand_at held.old.members s.number) result }
-    ensures comes { Does s.number (stepped_to (stand_at held.old.members s.number) result)
-        (Steps s.number result) (sight_of (D.view disk.old) held.old) (sight_of (D.view disk.new) held.new) }
+    ensures comes { DoesOn s.number (stepped_to (stand_at held.old.members s.number) result)
+        (Steps s.number result) (D.view disk.old) held.old (D.view disk.new) held.new }
     ensures less { result ≡ Ok stepped.More → IsLess s.number (sight_of (D.view disk.old) held.old) (sight_of (D.view disk.new) held.new) }
     ensures writes { WritesOwn (D.view disk.old) (D.view disk.new) }
     ensures tables { held.new.tables ≡ held.old.tables }

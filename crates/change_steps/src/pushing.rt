@@ -1,13 +1,13 @@
 // Lines of a change are pushed aside for readers, or have nothing to push.
 ghost use Rattle.std.specs.Prelude.{◌≡◌, Ok};
 ghost use Rattle.line_store.specs.Seats.{IsMember};
-ghost use Rattle.line_store.specs.Sights.{Does, IsLess, MayAnswer, Steps, stepped_to};
+ghost use Rattle.line_store.specs.Sights.{IsLess, MayAnswer, Steps, stepped_to};
 ghost use Rattle.line_store.specs.declared.answers.Stepped.TheVariants as stepped;
 ghost use Rattle.line_moves.specs.Changes.{IsPlaceOf};
 ghost use Rattle.disk_store.specs.ChangeSteps.{IsNext, Unpushed};
 ghost use Rattle.disk_store.specs.OwnFiles.{WritesOwn};
 ghost use Rattle.disk_store.specs.Seats.{stand_at};
-ghost use Rattle.disk_store.specs.Shown.{sight_of};
+ghost use Rattle.disk_store.specs.Shown.{DoesOn, sight_of};
 
 use disk_store::Held;
 use line_moves::{Place, place_of};
@@ -28,8 +28,8 @@ fn push_key<D: Disk>(
     requires next { IsNext held.old.members s.number key }
     requires place { IsPlaceOf key place }
     ensures answers { MayAnswer (stand_at held.old.members s.number) result }
-    ensures comes { Does s.number (stepped_to (stand_at held.old.members s.number) result)
-        (Steps s.number result) (sight_of (D.view disk.old) held.old) (sight_of (D.view disk.new) held.new) }
+    ensures comes { DoesOn s.number (stepped_to (stand_at held.old.members s.number) result)
+        (Steps s.number result) (D.view disk.old) held.old (D.view disk.new) held.new }
     ensures less { result ≡ Ok stepped.More → IsLess s.number (sight_of (D.view disk.old) held.old) (sight_of (D.view disk.new) held.new) }
     ensures writes { WritesOwn (D.view disk.old) (D.view disk.new) }
     ensures tables { held.new.tables ≡ held.old.tables }
@@ -50,8 +50,8 @@ pub(crate) fn push_line<D: Disk>(
     requires member { IsMember s.number }
     requires changes { Unpushed held.old.members s.number }
     ensures answers { MayAnswer (stand_at held.old.members s.number) result }
-    ensures comes { Does s.number (stepped_to (stand_at held.old.members s.number) result)
-        (Steps s.number result) (sight_of (D.view disk.old) held.old) (sight_of (D.view disk.new) held.new) }
+    ensures comes { DoesOn s.number (stepped_to (stand_at held.old.members s.number) result)
+        (Steps s.number result) (D.view disk.old) held.old (D.view disk.new) held.new }
     ensures less { result ≡ Ok stepped.More → IsLess s.number (sight_of (D.view disk.old) held.old) (sight_of (D.view disk.new) held.new) }
     ensures writes { WritesOwn (D.view disk.old) (D.view disk.new) }
     ensures tables { held.new.tables ≡ held.old.tables }

@@ -1,13 +1,13 @@
 // The steps of a change.
 ghost use Rattle.std.specs.Prelude.{◌≡◌, Ok};
 ghost use Rattle.line_store.specs.Seats.{IsMember};
-ghost use Rattle.line_store.specs.Sights.{Does, IsLess, MayAnswer, Steps, stepped_to};
+ghost use Rattle.line_store.specs.Sights.{IsLess, MayAnswer, Steps, stepped_to};
 ghost use Rattle.line_store.specs.declared.answers.Stepped.TheVariants as stepped;
 ghost use Rattle.disk_store.specs.declared.member.MemberStage.TheVariants as stage;
 ghost use Rattle.disk_store.specs.ChangeSteps.{ThroughAt};
 ghost use Rattle.disk_store.specs.OwnFiles.{WritesOwn};
 ghost use Rattle.disk_store.specs.Seats.{IsAtStage, stand_at};
-ghost use Rattle.disk_store.specs.Shown.{sight_of};
+ghost use Rattle.disk_store.specs.Shown.{DoesOn, sight_of};
 
 use crate::journalling::journal_key;
 use crate::pushing::push_line;
@@ -20,8 +20,8 @@ use rdb_types::Session;
 fn end_change<D: Disk>(_disk: &D, held: &mut Held, s: Session)
     requires member { IsMember s.number }
     requires through { ThroughAt held.old.members s.number }
-    ensures does { Does s.number (stepped_to (stand_at held.old.members s.number) (Ok stepped.Done))
-        (Steps s.number (Ok stepped.Done)) (sight_of (D.view _disk.now) held.old) (sight_of (D.view _disk.now) held.new) }
+    ensures does { DoesOn s.number (stepped_to (stand_at held.old.members s.number) (Ok stepped.Done))
+        (Steps s.number (Ok stepped.Done)) (D.view _disk.now) held.old (D.view _disk.now) held.new }
     ensures tables { held.new.tables ≡ held.old.tables }
 {
     held.sound();
@@ -33,8 +33,8 @@ pub fn change_step<D: Disk>(disk: &mut D, held: &mut Held, s: Session) -> Result
     requires member { IsMember s.number }
     requires changes { IsAtStage held.old.members s.number stage.Changing }
     ensures answers { MayAnswer (stand_at held.old.members s.number) result }
-    ensures comes { Does s.number (stepped_to (stand_at held.old.members s.number) result)
-        (Steps s.number result) (sight_of (D.view disk.old) held.old) (sight_of (D.view disk.new) held.new) }
+    ensures comes { DoesOn s.number (stepped_to (stand_at held.old.members s.number) result)
+        (Steps s.number result) (D.view disk.old) held.old (D.view disk.new) held.new }
     ensures less { result ≡ Ok stepped.More → IsLess s.number (sight_of (D.view disk.old) held.old) (sight_of (D.view disk.new) held.new) }
 
     // One slot at most is written, of the database's own files.

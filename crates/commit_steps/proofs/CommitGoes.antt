@@ -11,7 +11,7 @@ use Rattle.line_store.specs.declared.answers.Fault.TheVariants.{Failed, Bad}
 use Rattle.line_store.specs.Seats.{Seat, in_flight, committing, failed_at}
 use Rattle.line_store.specs.Shelves.{Shelf}
 use Rattle.line_store.specs.Calls.{Moves, GoesOn, Fails}
-use Rattle.line_store.specs.Sights.{bare, Does}
+use Rattle.line_store.specs.Sights.{bare}
 use Rattle.line_store.proofs.Causes.{cause-of}
 use Rattle.line_seat.specs.declared.commit.CommitStage.{CommitStage}
 use Rattle.line_seat.specs.declared.commit.CommitStage.TheVariants.{Changing, Imaging, Gathering, Sealing, Landing, Committed}
@@ -25,7 +25,7 @@ use Rattle.disk_store.specs.declared.member.MemberStage.TheVariants as stage
 use Rattle.disk_store.specs.Memory.{StoreMemory, with_member}
 use Rattle.disk_store.specs.Seats.{seat_with, stand_of, stand_at, steps_in, turns_left}
 use Rattle.disk_store.specs.Standing.{StageStands}
-use Rattle.disk_store.specs.Shown.{Shown, sight_of}
+use Rattle.disk_store.specs.Shown.{DoesOn, Shown}
 use Rattle.disk_store.specs.Sound.{IsSound}
 use Rattle.disk_store.specs.Commits.{AreOfPages, HasSome, KeepsCommits}
 use Rattle.commit_steps.specs.Turns.{group_for, turn_again, MakesTurn}
@@ -124,8 +124,8 @@ module _ (v w : View) (held : StoreMemory) (s : ℕ) (m : Member) (was : slice_g
   module _ (next : CommitTurn) (comes : (h : Shelf) (shown : Shown v held h) → StageStands m.stage v shown.ledger s m → TurnedTo v w (record (with_member s (at-turn next m) held) { numbers = held.numbers }) s (at-turn next m) shown.ledger shown.versions.course shown.versions.waiting) where
     pub does-turn : (R : Shelf → Shelf → Type 0) →
         ((h g : Shelf) (shown : Shown v held h) → StageStands m.stage v shown.ledger s m → Moves s (h.seat s) h g → h.steps s ≡ turns_left (length m.written.keys) turn → g.steps s ≡ turns_left (length m.written.keys) next → h.clock.faults ≡ v.faults → g.clock.faults ≡ w.faults → R h g) →
-        Does s (stand_at held.members s) R (sight_of v held) (sight_of w (with_member s (at-turn next m) held))
-    does-turn R as-asked = subst (λ (x : Option Member). Does s (stand_of x) R (sight_of v held) (sight_of w (with_member s (at-turn next m) held))) (sym was)
+        DoesOn s (stand_at held.members s) R v held w (with_member s (at-turn next m) held)
+    does-turn R as-asked = subst (λ (x : Option Member). DoesOn s (stand_of x) R v held w (with_member s (at-turn next m) held)) (sym was)
         (does-moves v w held (record (with_member s (at-turn next m) held) { numbers = held.numbers }) s m (at-turn next m) was (becomes-member held held.numbers s (at-turn next m)) (λ e. cc) makes.writes.only.told makes.writes.only.leaves
         (λ h shown stands. (comes h shown stands).comes) makes.writes.only.later makes.writes.only.no_fewer (stand_of (Some m)) R (ap (λ st. bare (seat_with st [] [])) (sym at))
         (λ h shown c is. let to = comes h shown _ in let own = to.flies c is in record {
@@ -133,12 +133,12 @@ module _ (v w : View) (held : StoreMemory) (s : ℕ) (m : Member) (was : slice_g
           under_way = ap (λ (t : ℕ). in_flight (if t == s then committing ws else h.seat t)) own.0 ∙ ap (λ (b : Bool). in_flight (cond b (committing ws) (h.seat s))) (itself s);
           laid = own.1;
         })
-        (λ h shown stands. (comes h shown stands).same) space-same
+        (λ h shown stands. (comes h shown stands).same) (λ h shown stands. (comes h shown stands).journal) space-same
         (λ h g start related moves. as-asked h g related.shown related.stands (subst (λ (x : Seat). Moves s x h g) (seat-same next h start related.seat) moves) (related.steps ∙ ap (λ st. steps_in st m) at) related.steps_behind related.shown.lines.faults related.faults_behind))
 
   -- it failed, and is made again
-  pub does-again : (fault : Fault) → (fault ≡ Failed → Rose v.faults w.faults) → ((file : FileId) (slot : ℕ) → fault ≡ Bad file slot → IsErrOf result (Bad file slot)) → Does s (failed_at (stand_at held.members s)) (λ h g. Fails s fault h g) (sight_of v held) (sight_of w (with_member s (at-turn (turn_again turn) m) held))
-  does-again fault rose told = does-failed held s m was (λ changes. cc) (λ h g. Fails s fault h g) (sight_of v held) (sight_of w (with_member s (at-turn (turn_again turn) m) held)) (does-turn (turn_again turn) (λ h shown stands. comes-again v w held s m was sound commits are h shown turn at result makes (subst (λ st. StageStands st v shown.ledger s m) at stands)) (λ h g. Fails s fault h g)
+  pub does-again : (fault : Fault) → (fault ≡ Failed → Rose v.faults w.faults) → ((file : FileId) (slot : ℕ) → fault ≡ Bad file slot → IsErrOf result (Bad file slot)) → DoesOn s (failed_at (stand_at held.members s)) (λ h g. Fails s fault h g) v held w (with_member s (at-turn (turn_again turn) m) held)
+  does-again fault rose told = does-failed held s m was (λ changes. cc) (λ h g. Fails s fault h g) v w held (with_member s (at-turn (turn_again turn) m) held) (does-turn (turn_again turn) (λ h shown stands. comes-again v w held s m was sound commits are h shown turn at result makes (subst (λ st. StageStands st v shown.ledger s m) at stands)) (λ h g. Fails s fault h g)
       (λ h g shown stands moves before behind faults faults-behind. record {
         moves = moves-failed v held s m was (λ changes. cc) h g shown moves;
         cause = cause-of fault h.clock g.clock v.faults w.faults rose
@@ -152,6 +152,6 @@ module _ (v w : View) (held : StoreMemory) (s : ℕ) (m : Member) (was : slice_g
   less-left = turn-falls (length m.written.keys) turn next makes.order (subst (λ (n : ℕ). IsFurtherTurn n turn next) (sym (sound.each s m was).keys.long) makes.further) off
 
   -- it goes on
-  pub does-further : (IsTrue v.tells → LeftNow v v.content) → Does s (stand_at held.members s) (λ h g. GoesOn s h g) (sight_of v held) (sight_of w (with_member s (at-turn next m) held))
+  pub does-further : (IsTrue v.tells → LeftNow v v.content) → DoesOn s (stand_at held.members s) (λ h g. GoesOn s h g) v held w (with_member s (at-turn next m) held)
   does-further left = does-turn v w held s m was turn at sound commits are (Ok next) makes next (λ h shown stands. comes-further v w held s m was sound commits are left h shown turn next at makes (subst (λ st. StageStands st v shown.ledger s m) at stands) off) (λ h g. GoesOn s h g)
       (λ h g shown stands moves before behind faults faults-behind. record { moves = moves; less = subst (λ (n : ℕ). n < h.steps s) (sym behind) (subst (λ (n : ℕ). turns_left (length m.written.keys) next < n) (sym before) less-left) })

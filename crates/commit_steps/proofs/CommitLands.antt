@@ -10,7 +10,6 @@ use Rattle.line_view.specs.Writes.{laid_all}
 use Rattle.line_store.specs.Seats.{committing, closing}
 use Rattle.line_store.specs.Shelves.{Shelf, Space}
 use Rattle.line_store.specs.Calls.{IsCommitted, TakesGroup}
-use Rattle.line_store.specs.Sights.{Does}
 use Rattle.stable_lines.specs.Slots.{line_at}
 use Rattle.stable_lines.specs.Journal.{next_slot, write_of}
 use Rattle.stable_lines.specs.Progress.{lines_with}
@@ -32,7 +31,7 @@ use Rattle.disk_store.specs.Dying.{forgotten}
 use Rattle.disk_store.specs.Memory.{StoreMemory}
 use Rattle.disk_store.specs.Seats.{seat_with}
 use Rattle.disk_store.specs.Standing.{IsGoing, StageStands}
-use Rattle.disk_store.specs.Shown.{Sits, TablesStand, Shown, sight_of}
+use Rattle.disk_store.specs.Shown.{DoesOn, Sits, TablesStand, Shown}
 use Rattle.disk_store.specs.Sound.{IsSound}
 use Rattle.disk_store.specs.Commits.{is_flying, AreOfPages, KeepsCommits}
 use Rattle.disk_store.specs.Landing.{PutsAll, landed_with}
@@ -49,7 +48,7 @@ use Rattle.commit_steps.proofs.Turning.{beside-stands, slots-aside, tables-turne
 use Rattle.commit_steps.proofs.CommitGoes.{lands-from}
 use Rattle.disk_store.proofs.LinesPut.{all-used}
 use Rattle.disk_store.proofs.Unused.{unused-behind}
-use Rattle.disk_store.proofs.Landed.{slot-behind, number-behind, tables-landed, becomes-landed, takes-landed}
+use Rattle.disk_store.proofs.Landed.{slot-behind, number-behind, rolls-landed, tables-landed, becomes-landed, takes-landed}
 
 -- ---- what is shown
 
@@ -141,12 +140,13 @@ module _ (v w : View) (held : StoreMemory) (s : ℕ) (m : Member) (was : slice_g
   seat-was h start seat = seat ∙ ap (λ st. seat_with st ws start) at
 
   -- it is committed since this moment
-  pub does-land : (left : IsTrue w.tells → LeftNow w w.content) (moment : ℕ) → moment ≡ w.moment → Does s closing (λ h g. IsCommitted s moment h g) (sight_of v held) (sight_of w behind)
+  pub does-land : (left : IsTrue w.tells → LeftNow w w.content) (moment : ℕ) → moment ≡ w.moment → DoesOn s closing (λ h g. IsCommitted s moment h g) v held w behind
   does-land left moment now =
       does-any v w held behind s m n was (becomes-landed held s m stage.Closing kept puts) (λ e. cc) makes.writes.only.told makes.writes.only.leaves
       (λ h shown stands. lands-now h shown (subst (λ st. StageStands st v shown.ledger s m) at stands) left)
       makes.writes.only.later makes.writes.only.no_fewer closing (λ h g. IsCommitted s moment h g) refl
       (λ h shown d is. absurd (none-some d is))
+      (λ h shown stands. let going = subst (λ st. StageStands st v shown.ledger s m) at stands in rolls-landed v shown.ledger (c h shown going left) shown.facts (under h shown going left) refl)
       (λ h g start related. record {
         writes = ws;
         was = seat-was h start related.seat;
@@ -166,23 +166,24 @@ module _ (v w : View) (held : StoreMemory) (s : ℕ) (m : Member) (was : slice_g
       let going : IsGoing v shown.ledger s m Committed = subst (λ st. StageStands st v shown.ledger s m) at stands in
       (shown.facts.commit (commit_of_plan going.commit.plan Committed) going.commit.under_way).under_way refl
 
-  pub does-through : (moment : ℕ) → Does s closing (λ h g. IsCommitted s moment h g) (sight_of v held) (sight_of w (landed_with stage.Closing kept s m held))
+  pub does-through : (moment : ℕ) → DoesOn s closing (λ h g. IsCommitted s moment h g) v held w (landed_with stage.Closing kept s m held)
   does-through moment =
       does-any v w held (landed_with stage.Closing kept s m held) s m (forgotten stage.Closing m) was (becomes-landed held s m stage.Closing kept puts) (λ e. cc) only.only.told only.only.leaves
       (λ h shown stands. absurd (never-through h shown stands))
       only.only.later only.only.no_fewer closing (λ h g. IsCommitted s moment h g) refl
       (λ h shown d is. absurd (never-through h shown (subst (λ x. Sits v shown.ledger s x (h.seat s)) was (shown.seats s)).stands))
+      (λ h shown stands. absurd (never-through h shown stands))
       (λ h g start related. absurd (never-through h related.shown related.stands))
 
 -- the turn that comes to the end is the last one
 pub does-last : (v w : View) (held : StoreMemory) (s : ℕ) (m : Member) (was : slice_get held.members s ≡ Some m) (turn next : CommitTurn) (at : m.stage ≡ stage.Committing turn) (sound : IsSound held) (commits : KeepsCommits held) (are : AreOfPages held.tables m.written.lines m.classes.items) (through : next ≡ Going Committed)
     (makes : MakesTurn v w turn (group_for held m) m.written.lines m.classes.items (Ok next)) (kept : Tables) (puts : PutsAll held.tables m.written.lines kept) (left : IsTrue w.tells → LeftNow w w.content) (moment : ℕ) (now : moment ≡ w.moment)
-    → Does s closing (λ h g. IsCommitted s moment h g) (sight_of v held) (sight_of w (landed_with stage.Closing kept s m held))
+    → DoesOn s closing (λ h g. IsCommitted s moment h g) v held w (landed_with stage.Closing kept s m held)
 does-last v w held s m was turn next at sound commits are through makes kept puts left moment now = by (lands-from turn made.order)
   where
     made : MakesTurn v w turn (group_for held m) m.written.lines m.classes.items (Ok (Going Committed))
     made = subst (λ (t : CommitTurn). MakesTurn v w turn (group_for held m) m.written.lines m.classes.items (Ok t)) through makes
 
-    by : (turn ≡ Going Landing) ⊎ (turn ≡ Going Committed) → Does s closing (λ h g. IsCommitted s moment h g) (sight_of v held) (sight_of w (landed_with stage.Closing kept s m held))
+    by : (turn ≡ Going Landing) ⊎ (turn ≡ Going Committed) → DoesOn s closing (λ h g. IsCommitted s moment h g) v held w (landed_with stage.Closing kept s m held)
     by (inl lands) = does-land v w held s m was (at ∙ ap stage.Committing lands) sound commits are (subst (λ (t : CommitTurn). MakesTurn v w t (group_for held m) m.written.lines m.classes.items (Ok (Going Committed))) lands made) kept puts left moment now
     by (inr was-through) = does-through v w held s m was (at ∙ ap stage.Committing was-through) made.writes kept puts moment

@@ -8,7 +8,6 @@ use Rattle.line_view.specs.declared.writes.Write.{Write}
 use Rattle.line_view.specs.Writes.{laid_all}
 use Rattle.line_store.specs.Seats.{closing}
 use Rattle.line_store.specs.Calls.{IsCommitted}
-use Rattle.line_store.specs.Sights.{Does}
 use Rattle.member_steps.specs.declared.committing.CommitTurn.TheVariants.{Entering}
 use Rattle.member_memory.specs.Memory.{AreKeysOf, writes_in}
 use Rattle.disk_store.specs.declared.member.Member.{Member}
@@ -16,7 +15,7 @@ use Rattle.disk_store.specs.declared.member.MemberStage.TheVariants as stage
 use Rattle.disk_store.specs.Memory.{StoreMemory, with_member, at_stage}
 use Rattle.disk_store.specs.Seats.{seat_with}
 use Rattle.disk_store.specs.Standing.{HasEntered, StageStands}
-use Rattle.disk_store.specs.Shown.{sight_of}
+use Rattle.disk_store.specs.Shown.{DoesOn}
 use Rattle.disk_store.proofs.EndingOpen.{does-end-at}
 use Rattle.disk_store.proofs.Stages.{may-end-begun}
 
@@ -28,7 +27,7 @@ module _ (v : View) (held : StoreMemory) (s : ℕ) (m : Member) (was : slice_get
   no-writes : writes_in m.written.lines ≡ []
   no-writes = none-written m.written.lines (sym keys.long ∙ none)
 
-  pub does-commit-none : (moment : ℕ) → moment ≡ v.moment → Does s closing (λ h g. IsCommitted s moment h g) (sight_of v held) (sight_of v (with_member s (at_stage stage.Closing m) held))
+  pub does-commit-none : (moment : ℕ) → moment ≡ v.moment → DoesOn s closing (λ h g. IsCommitted s moment h g) v held v (with_member s (at_stage stage.Closing m) held)
   does-commit-none moment now =
       does-end-at v held s m was stage.Closing left (λ g rests. rests) (λ waiting. tt) (λ e. cc) refl
       (λ g stands. let entered : HasEntered v g s m k = subst (λ st. StageStands st v g s m) at stands in may-end-begun g s m entered.journalled.begun)

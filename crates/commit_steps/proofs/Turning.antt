@@ -88,6 +88,7 @@ pub record TurnedTo (v w : View) (behind : StoreMemory) (s : ℕ) (n : Member) (
   pub comes : ComesTo v w behind s n g course waiting
   pub flies : FliesAs s (writes_in n.written.lines) comes.ledger
   pub same : comes.ledger.base.lines ≡ g.base.lines
+  pub journal : comes.ledger.base.journal ≡ g.base.journal
 
 -- what stays of the ledger's base while nothing is committed
 pub record SameBase (g h : Ledger) : Type 0 where
@@ -143,6 +144,7 @@ module _ (v w : View) (held : StoreMemory) (s : ℕ) (m : Member) (was : slice_g
     };
     flies = flies;
     same = base.lines;
+    journal = base.journal;
   }
 
   -- the group of its commit has its writes

@@ -1,7 +1,7 @@
 // The steps of a commit.
 ghost use Rattle.std.specs.Prelude.{◌≡◌, ◌≢◌, ◌≤◌, true, false, Ok, Some, length, slice_get};
 ghost use Rattle.line_store.specs.Seats.{IsMember, is_committing};
-ghost use Rattle.line_store.specs.Sights.{Does, Steps, stepped_to, MayAnswer, IsLess};
+ghost use Rattle.line_store.specs.Sights.{Steps, stepped_to, MayAnswer, IsLess};
 ghost use Rattle.line_store.specs.declared.answers.Stepped.TheVariants as stepped;
 ghost use Rattle.line_seat.specs.declared.commit.CommitStage.TheVariants.{Committed};
 ghost use Rattle.disk_seats.specs.Ledgers.{again as stage_again};
@@ -13,7 +13,7 @@ ghost use Rattle.disk_store.specs.Commits.{HasSome};
 ghost use Rattle.disk_store.specs.Grown.{Grow};
 ghost use Rattle.disk_store.specs.OwnFiles.{WritesOwn};
 ghost use Rattle.disk_store.specs.Seats.{stand_at, IsAtStage};
-ghost use Rattle.disk_store.specs.Shown.{sight_of};
+ghost use Rattle.disk_store.specs.Shown.{DoesOn, sight_of};
 ghost use Rattle.commit_steps.specs.Turns.{turn_again, group_for, WritesNone, MakesTurn};
 
 use disk_store::{Held, Member, MemberStage};
@@ -140,8 +140,8 @@ pub fn commit_step<D: Disk>(disk: &mut D, held: &mut Held, s: Session) -> Result
     requires member { IsMember s.number }
     requires commits { (turn : Turn) × IsAtStage held.old.members s.number (stage.Committing turn) }
     ensures answers { MayAnswer (stand_at held.old.members s.number) result }
-    ensures comes { Does s.number (stepped_to (stand_at held.old.members s.number) result)
-        (Steps s.number result) (sight_of (D.view disk.old) held.old) (sight_of (D.view disk.new) held.new) }
+    ensures comes { DoesOn s.number (stepped_to (stand_at held.old.members s.number) result)
+        (Steps s.number result) (D.view disk.old) held.old (D.view disk.new) held.new }
     ensures less { result ≡ Ok stepped.More → IsLess s.number (sight_of (D.view disk.old) held.old) (sight_of (D.view disk.new) held.new) }
 
     // One slot at most is written, of the database's own files.

@@ -6,7 +6,6 @@ use Rattle.root_file.specs.Root.{IsRoot}
 use Rattle.line_store.specs.Seats.{Seat}
 use Rattle.line_store.specs.Shelves.{Shelf}
 use Rattle.line_store.specs.Calls.{Moves}
-use Rattle.line_store.specs.Sights.{Does}
 use Rattle.backup_steps.specs.backup_making.Making.{file_of as backup_of}
 use Rattle.backup_steps.specs.Beside.{IsBeside}
 use Rattle.disk_seats.specs.Members.{LedgerFacts}
@@ -16,7 +15,7 @@ use Rattle.disk_store.specs.declared.member.Member.{Member}
 use Rattle.disk_store.specs.declared.held.Numbers.{Numbers}
 use Rattle.disk_store.specs.Memory.{StoreMemory}
 use Rattle.disk_store.specs.Seats.{stand_at}
-use Rattle.disk_store.specs.Shown.{CeilingStands, Sits, Shown, sight_of}
+use Rattle.disk_store.specs.Shown.{DoesOn, CeilingStands, Sits, Shown}
 use Rattle.disk_store.proofs.Agreeing.{shown-opens}
 use Rattle.disk_store.proofs.Beside.{stays-there}
 use Rattle.disk_store.proofs.NoBackups.{copier-stays}
@@ -98,18 +97,22 @@ module _ (number : ℕ) (v w : View) (beside : IsBeside (backup_of number) v w) 
       space = space-same h.space;
     }
 
-  pub does_beside : (held : StoreMemory) (s : ℕ) → Does s (stand_at held.members s) (λ old new. Moves s (old.seat s) old new) (sight_of v held) (sight_of w held)
+  pub does_beside : (held : StoreMemory) (s : ℕ) → DoesOn s (stand_at held.members s) (λ old new. Moves s (old.seat s) old new) v held w held
+  unfolding shown_beside
   does_beside held s = record {
-    mine = refl;
-    others = λ t apart. refl;
-    steps = λ t apart. refl;
-    copier = λ number. copier-stays (stand_at held.members s) (slice_get held.members s) (stand_at held.members s) s number refl;
-    each = λ h shown. record {
-      shelf = moved_on w held h;
-      shown = shown_beside held h shown;
-      related = moves held h shown s;
-      lasts = lasts_with v w h (moved_on w held h) shown.lines.time (beside.leaves shown.tells) (may_stand v shown.ledger h shown.facts shown.lines) (may_stand w shown.ledger (moved_on w held h) (facts held h shown) (lines held h shown));
-      opens = all-open v w h shown.lines.time (beside.leaves shown.tells) (shown-opens v held h shown) (shown-opens w held (moved_on w held h) (shown_beside held h shown));
-      backed = λ number t lines early apart was. was;
+    does = record {
+      mine = refl;
+      others = λ t apart. refl;
+      steps = λ t apart. refl;
+      copier = λ number. copier-stays (stand_at held.members s) (slice_get held.members s) (stand_at held.members s) s number refl;
+      each = λ h shown. record {
+        shelf = moved_on w held h;
+        shown = shown_beside held h shown;
+        related = moves held h shown s;
+        lasts = lasts_with v w h (moved_on w held h) shown.lines.time (beside.leaves shown.tells) (may_stand v shown.ledger h shown.facts shown.lines) (may_stand w shown.ledger (moved_on w held h) (facts held h shown) (lines held h shown));
+        opens = all-open v w h shown.lines.time (beside.leaves shown.tells) (shown-opens v held h shown) (shown-opens w held (moved_on w held h) (shown_beside held h shown));
+        backed = λ number t lines early apart was. was;
+      };
     };
+    rolls = λ h shown base last was. was;
   }

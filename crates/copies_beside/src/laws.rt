@@ -5,10 +5,9 @@ ghost use Rattle.backup_steps.specs.next_lines.partial_backup.Partial.{IsUntouch
 ghost use Rattle.backup_steps.specs.Beside.{IsBeside};
 ghost use Rattle.line_store.specs.Calls.{Moves};
 ghost use Rattle.line_store.specs.Shelves.{Shelf};
-ghost use Rattle.line_store.specs.Sights.{Does};
 ghost use Rattle.disk_store.specs.OwnFiles.{WritesOwn};
 ghost use Rattle.disk_store.specs.Seats.{stand_at};
-ghost use Rattle.disk_store.specs.Shown.{Shown, sight_of};
+ghost use Rattle.disk_store.specs.Shown.{DoesOn, Shown};
 ghost use Rattle.copies_beside.specs.Moved.{moved_on};
 
 use disk_store::Held;
@@ -22,9 +21,9 @@ pub fn a_store_is_shown_beside<D: Disk>(before: &D, after: &D, held: &Held)
 
     // In the words of the trait of stores it is a step of any session that changes nothing; what a crash leaves meanwhile stands, and can be opened.
     ensures does { (number session : ℕ) → IsBeside (file_of number) (D.view before.now) (D.view after.now)
-        → Does session (stand_at held.now.members session)
+        → DoesOn session (stand_at held.now.members session)
         (λ h k. Moves session (h.seat session) h k)
-        (sight_of (D.view before.now) held.now) (sight_of (D.view after.now) held.now) }
+        (D.view before.now) held.now (D.view after.now) held.now }
 {}
 
 /// Behind a call of the store, which writes one slot of the database's own files at most, the file of each backup is as it was.

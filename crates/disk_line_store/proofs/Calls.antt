@@ -23,7 +23,7 @@ use Rattle.line_store.specs.Seats.{Seat, outside, beginning, writing, changing, 
 use Rattle.line_store.specs.Shelves.{Shelf, seen_by, set_aside_beside}
 use Rattle.line_store.specs.Rooms.{IsFull, IsRoom, first_line}
 use Rattle.line_store.specs.Calls.{Changes, Comes, IsRead, MayStopChange, MayStopCommit, Moves}
-use Rattle.line_store.specs.Sights.{bare, Does, LearnsArea, LearnsLine, LearnsSome, Sight, Stays}
+use Rattle.line_store.specs.Sights.{bare, Does, LearnsArea, LearnsLine, LearnsSome, Sight}
 use Rattle.backup_steps.specs.next_lines.partial_backup.declared.copying.Copying.{Copying}
 use Rattle.change_steps.specs.disk_store.Grown.{Grow}
 use Rattle.change_steps.specs.disk_store.Memory.{StoreMemory}
@@ -31,7 +31,7 @@ use Rattle.change_steps.specs.disk_store.declared.member.Member.{Member}
 use Rattle.change_steps.specs.disk_store.declared.member.MemberStage.{MemberStage}
 use Rattle.change_steps.specs.disk_store.declared.member.MemberStage.TheVariants as stage
 use Rattle.change_steps.specs.disk_store.Seats.{seat_with, stand_of, stand_at, IsAtStage}
-use Rattle.change_steps.specs.disk_store.Shown.{Shown, sight_of}
+use Rattle.change_steps.specs.disk_store.Shown.{DoesOn, Shown, sight_of}
 use Rattle.store_copies.specs.Memory.{CopiesMemory, copied_by}
 use Rattle.store_copies.specs.Shown.{seated, with_copies, is_reader, AreReaders, LeavesOthers, ShownWith, copied_sight}
 use Rattle.store_copies.proofs.Begins.{reading-at}
@@ -46,12 +46,12 @@ pub record Beside (s : ℕ) (old new : Sight) : Type 0 where
   pub stand : (t : ℕ) → (t == s) ≡ false → bare (new.stand t) ≡ bare (old.stand t)
   pub steps : (t : ℕ) → (t == s) ≡ false → new.steps t ≡ old.steps t
 
-pub beside-of : (s : ℕ) (there : Seat) (R : Shelf → Shelf → Type 0) (old new : Sight) → Does s there R old new → Beside s old new
-beside-of s there R old new does = record { stand = does.others; steps = does.steps }
+pub beside-of : (s : ℕ) (there : Seat) (R : Shelf → Shelf → Type 0) (v w : View) (held behind : StoreMemory) → DoesOn s there R v held w behind → Beside s (sight_of v held) (sight_of w behind)
+beside-of s there R v w held behind does = record { stand = does.does.others; steps = does.does.steps }
 
-pub beside-either : {T E : Type 0} (r : Result T E) (s : ℕ) (a b : Seat) (R Q : Shelf → Shelf → Type 0) (old new : Sight) → OnOk r (Does s a R old new) → OnErr r (Does s b Q old new) → Beside s old new
-beside-either (Ok x) s a b R Q old new ok err = beside-of s a R old new ok
-beside-either (Err e) s a b R Q old new ok err = beside-of s b Q old new err
+pub beside-either : {T E : Type 0} (r : Result T E) (s : ℕ) (a b : Seat) (R Q : Shelf → Shelf → Type 0) (v w : View) (held behind : StoreMemory) → OnOk r (DoesOn s a R v held w behind) → OnErr r (DoesOn s b Q v held w behind) → Beside s (sight_of v held) (sight_of w behind)
+beside-either (Ok x) s a b R Q v w held behind ok err = beside-of s a R v w held behind ok
+beside-either (Err e) s a b R Q v w held behind ok err = beside-of s b Q v w held behind err
 
 pub on-ok : {T E P Q : Type 0} (r : Result T E) → (P → Q) → OnOk r P → OnOk r Q
 on-ok (Ok x) to is = to is
@@ -135,13 +135,13 @@ module _ (v w : View) (held behind : StoreMemory) (copies : CopiesMemory) (s : �
   still t apart = refl
 
   -- it moves to a seat that the shelf says
-  pub moved : (there : Seat) (to : Shelf → Seat) → begun (stand_at held.members s) there ≡ None → ((h : Shelf) → to (with h) ≡ to h) → Does s there (λ h g. Moves s (to h) h g) (sight_of v held) (sight_of w behind)
+  pub moved : (there : Seat) (to : Shelf → Seat) → begun (stand_at held.members s) there ≡ None → ((h : Shelf) → to (with h) ≡ to h) → DoesOn s there (λ h g. Moves s (to h) h g) v held w behind
       → Does s there (λ h g. Moves s (to h) h g) (copied_sight v held copies) (copied_sight w behind copies)
   moved there to begins same does = does-with v w held behind copies s none left grows there (λ h g. Moves s (to h) h g) (λ h g. Moves s (to h) h g) begins
       (λ h g moves t apart. moves.others.seat t apart)
       (λ h g moves. subst (λ (seat : Seat). Moves s seat (with h) (with g)) (sym (same h)) (moves-with (copied_by copies) (copied_by copies) s still none none (to h) h g moves)) does
 
-  pub changed : (there : Seat) (more : List Write) → begun (stand_at held.members s) there ≡ None → Does s there (λ h g. Changes s more h g) (sight_of v held) (sight_of w behind)
+  pub changed : (there : Seat) (more : List Write) → begun (stand_at held.members s) there ≡ None → DoesOn s there (λ h g. Changes s more h g) v held w behind
       → Does s there (λ h g. Changes s more h g) (copied_sight v held copies) (copied_sight w behind copies)
   changed there more begins does = does-with v w held behind copies s none left grows there (λ h g. Changes s more h g) (λ h g. Changes s more h g) begins
       (λ h g changes t apart. changes.others.seat t apart)
@@ -153,7 +153,7 @@ module _ (v w : View) (held behind : StoreMemory) (copies : CopiesMemory) (s : �
   reads-keep (Err read.NoMemory) h g is t apart = is.others.seat t apart
   reads-keep (Err (read.Fault fault)) h g is t apart = is.moves.others.seat t apart
 
-  pub looked : (there : Seat) (result : Result Progress ReadStop) → begun (stand_at held.members s) there ≡ None → Does s there (λ h g. IsRead s h g result) (sight_of v held) (sight_of w behind)
+  pub looked : (there : Seat) (result : Result Progress ReadStop) → begun (stand_at held.members s) there ≡ None → DoesOn s there (λ h g. IsRead s h g result) v held w behind
       → Does s there (λ h g. IsRead s h g result) (copied_sight v held copies) (copied_sight w behind copies)
   looked there result begins does = does-with v w held behind copies s none left grows there (λ h g. IsRead s h g result) (λ h g. IsRead s h g result) begins
       (λ h g is t apart. reads-keep result h g is t apart)
@@ -167,7 +167,7 @@ module _ (v w : View) (held behind : StoreMemory) (copies : CopiesMemory) (s : �
   comes-keep (Ok (Recovered false moment)) h g is t apart = is.moves.others.seat t apart
   comes-keep (Err fault) h g is t apart = is.moves.others.seat t apart
 
-  pub stepped : (there : Seat) (result : Result Stepped Fault) → begun (stand_at held.members s) there ≡ None → Does s there (λ h g. Comes s h g result) (sight_of v held) (sight_of w behind)
+  pub stepped : (there : Seat) (result : Result Stepped Fault) → begun (stand_at held.members s) there ≡ None → DoesOn s there (λ h g. Comes s h g result) v held w behind
       → Does s there (λ h g. Comes s h g result) (copied_sight v held copies) (copied_sight w behind copies)
   stepped there result begins does = does-with v w held behind copies s none left grows there (λ h g. Comes s h g result) (λ h g. Comes s h g result) begins
       (λ h g is t apart. comes-keep result h g is t apart)

@@ -2,11 +2,11 @@
 ghost use Rattle.std.specs.Prelude.{◌≡◌, Ok};
 ghost use Rattle.line_store.specs.declared.answers.Stepped.TheVariants as stepped;
 ghost use Rattle.line_store.specs.Seats.{IsMember, IsUnderWay};
-ghost use Rattle.line_store.specs.Sights.{Does, Steps, stepped_to, MayAnswer, IsLess};
+ghost use Rattle.line_store.specs.Sights.{Steps, stepped_to, MayAnswer, IsLess};
 ghost use Rattle.change_steps.specs.disk_store.Grown.{Grow};
 ghost use Rattle.change_steps.specs.disk_store.OwnFiles.{WritesOwn};
 ghost use Rattle.change_steps.specs.disk_store.Seats.{stand_at, IsAtStage};
-ghost use Rattle.change_steps.specs.disk_store.Shown.{sight_of};
+ghost use Rattle.change_steps.specs.disk_store.Shown.{DoesOn, sight_of};
 
 use change_steps::{Ceiling, Held, MemberStage, ask, change_step, draw};
 use commit_steps::commit_step;
@@ -28,8 +28,8 @@ pub(crate) fn step<D: Disk>(disk: &mut D, held: &mut Held, s: Session) -> Result
     requires member { IsMember s.number }
     requires seat { IsUnderWay (stand_at held.old.members s.number) }
     ensures answers { MayAnswer (stand_at held.old.members s.number) result }
-    ensures comes { Does s.number (stepped_to (stand_at held.old.members s.number) result)
-        (Steps s.number result) (sight_of (D.view disk.old) held.old) (sight_of (D.view disk.new) held.new) }
+    ensures comes { DoesOn s.number (stepped_to (stand_at held.old.members s.number) result)
+        (Steps s.number result) (D.view disk.old) held.old (D.view disk.new) held.new }
     ensures less { result ≡ Ok stepped.More → IsLess s.number (sight_of (D.view disk.old) held.old) (sight_of (D.view disk.new) held.new) }
 
     // One slot at most is written, of the database's own files.

@@ -10,7 +10,7 @@ use Rattle.line_versions.specs.Course.{Course, Reading, begun}
 use Rattle.line_store.specs.Seats.{outside, reading, in_flight}
 use Rattle.line_store.specs.Shelves.{Shelf, seen_from}
 use Rattle.line_store.specs.Calls.{Moves}
-use Rattle.line_store.specs.Sights.{bare, Does, BeginsReading}
+use Rattle.line_store.specs.Sights.{bare, BeginsReading}
 use Rattle.ledger_versions.specs.disk_seats.Ledgers.{resting, Ledger, Commit}
 use Rattle.ledger_versions.specs.disk_versions.Courses.{course_reading}
 use Rattle.ledger_versions.proofs.Written.{reader_begins}
@@ -25,7 +25,7 @@ use Rattle.disk_store.specs.Memory.{StoreMemory, with_member}
 use Rattle.disk_store.specs.Readers.{keeping, numbers_going}
 use Rattle.disk_store.specs.Seats.{seat_with, stand_of, steps_of, steps_at, IsAtStage}
 use Rattle.disk_store.specs.Standing.{StageStands}
-use Rattle.disk_store.specs.Shown.{Sits, SitsAs, WaitsAs, IsReading, AreReaders, HaveStarts, pages_of, Shown, sight_of}
+use Rattle.disk_store.specs.Shown.{DoesOn, Sits, SitsAs, WaitsAs, IsReading, AreReaders, HaveStarts, pages_of, Shown}
 use Rattle.disk_store.proofs.Members.{set-here, set-beside, get-within}
 use Rattle.disk_store.proofs.Moving.{itself}
 use Rattle.disk_store.proofs.Kept.{kept-stays}
@@ -161,7 +161,7 @@ module _ (v : View) (held : StoreMemory) (s : ℕ) (m : Member) (was : slice_get
             (sym (shown.versions.readers.versions.lines key) ∙ (ap (λ (x : Reading). x.lines key) e ∙ (lines key ∙ found)))
         by false apart = shown.versions.used t file r start is (sym (reader-beside t apart) ∙ goes) lines
 
-    shown-behind : Shown v behind after
+    abbrev shown-behind : Shown v behind after
     shown-behind = record {
       tells = shown.tells;
       ledger = g;
@@ -196,11 +196,14 @@ module _ (v : View) (held : StoreMemory) (s : ℕ) (m : Member) (was : slice_get
       space = record { limits = refl; taken = λ file page. refl; snaps = omega arith; slots = omega arith };
     }
 
-  pub does-begin-reading : Does s (reading []) (BeginsReading s) (sight_of v held) (sight_of v behind)
+  pub does-begin-reading : DoesOn s (reading []) (BeginsReading s) v held v behind
   does-begin-reading = record {
-    mine = ap (λ x. bare (stand_of x)) here;
-    others = λ t apart. ap (λ x. bare (stand_of x)) (beside t apart);
-    steps = λ t apart. ap steps_of (beside t apart);
-    copier = λ number. refl;
-    each = λ h shown. record { shelf = after h shown; shown = shown-behind h shown; related = moves h shown; lasts = record { since = λ t lines early is. inl is }; opens = λ t early was. was; backed = λ number t lines early apart was. was };
+    does = record {
+      mine = ap (λ x. bare (stand_of x)) here;
+      others = λ t apart. ap (λ x. bare (stand_of x)) (beside t apart);
+      steps = λ t apart. ap steps_of (beside t apart);
+      copier = λ number. refl;
+      each = λ h shown. record { shelf = after h shown; shown = shown-behind h shown; related = moves h shown; lasts = record { since = λ t lines early is. inl is }; opens = λ t early was. was; backed = λ number t lines early apart was. was };
+    };
+    rolls = λ h shown base last was. was;
   }

@@ -13,7 +13,6 @@ use Rattle.line_view.specs.Knowledge.{Lines}
 use Rattle.line_store.specs.Seats.{changing, in_flight, lines_added, writes_of, Adds}
 use Rattle.line_store.specs.Shelves.{Shelf, Space}
 use Rattle.line_store.specs.Calls.{Changes, TakesSlots}
-use Rattle.line_store.specs.Sights.{Does}
 use Rattle.line_versions.specs.Versions.{Followed}
 use Rattle.line_moves.specs.Lines.{ChangedLines}
 use Rattle.reader_lines.specs.version_writing.Slots.{SlotTable, HoldsFile, with_aside}
@@ -31,7 +30,7 @@ use Rattle.disk_store.specs.declared.member.MemberStage.TheVariants as stage
 use Rattle.disk_store.specs.Memory.{StoreMemory, with_member}
 use Rattle.disk_store.specs.Seats.{seat_with}
 use Rattle.disk_store.specs.Standing.{HasBegun, HasJournalled, IsJournalling, StageStands}
-use Rattle.disk_store.specs.Shown.{IsPushed, WaitPushed, WaitsAs, Shown, used_in, sight_of}
+use Rattle.disk_store.specs.Shown.{DoesOn, IsPushed, WaitPushed, WaitsAs, Shown, used_in}
 use Rattle.disk_store.specs.Sound.{IsSound}
 use Rattle.disk_store.specs.Changing.{LaysOver, all_of, with_asides, changing_with}
 use Rattle.disk_store.proofs.Members.{get-within}
@@ -186,9 +185,10 @@ module _ (v : View) (held : StoreMemory) (s : ℕ) (m : Member) (more : List Wri
         }));
       }
 
-  pub does-change : Does s (changing []) (Changes s more) (sight_of v held) (sight_of v behind)
+  pub does-change : DoesOn s (changing []) (Changes s more) v held v behind
   does-change =
       does-any v v held behind s m next was becomes (λ e. cc) refl (none-leaves v) to-change (omega arith) (omega arith) (changing []) (Changes s more) refl
       (apart-flight v v held behind s m next was becomes (λ e. cc) refl (none-leaves v) to-change (omega arith) (omega arith) (changing []) (Changes s more) refl
-      (never v v held behind s m next was becomes (λ e. cc) refl (none-leaves v) to-change (omega arith) (omega arith) (changing []) (Changes s more) refl still) (λ h shown stands. record { lines = refl; commit = refl }))
+      (never v v held behind s m next was becomes (λ e. cc) refl (none-leaves v) to-change (omega arith) (omega arith) (changing []) (Changes s more) refl still) (λ h shown stands. record { lines = refl; journal = refl; commit = refl }))
+      (λ h shown stands base last was. was)
       changes

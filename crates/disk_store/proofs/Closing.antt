@@ -8,7 +8,7 @@ use Rattle.line_view.specs.Knowledge.{Lines}
 use Rattle.line_store.specs.Seats.{Seat, outside, in_flight, done_at}
 use Rattle.line_store.specs.Shelves.{Shelf}
 use Rattle.line_store.specs.Calls.{Moves, IsDone, IsUndone}
-use Rattle.line_store.specs.Sights.{Does, seat_or}
+use Rattle.line_store.specs.Sights.{seat_or}
 use Rattle.stable_lines.specs.Slots.{ruj_file}
 use Rattle.line_moves.specs.Calls.{OnlyWrites}
 use Rattle.ledger_versions.specs.disk_seats.Ledgers.{resting, changing, Ledger}
@@ -23,7 +23,7 @@ use Rattle.disk_store.specs.Dying.{forgotten}
 use Rattle.disk_store.specs.Memory.{StoreMemory, with_member}
 use Rattle.disk_store.specs.Seats.{seat_with, stand_of, stand_at, IsAtStage}
 use Rattle.disk_store.specs.Standing.{IsJournalling, StageStands}
-use Rattle.disk_store.specs.Shown.{sight_of}
+use Rattle.disk_store.specs.Shown.{DoesOn}
 use Rattle.disk_store.proofs.Stepping.{does-apart, becomes-member, space-same}
 use Rattle.disk_store.proofs.Kept.{kept-stays}
 use Rattle.disk_store.proofs.Passing.{passes-aside, aside-ceiling, headers-beside, same-ledger}
@@ -82,20 +82,20 @@ module _ (v w : View) (held : StoreMemory) (s : ℕ) (m : Member) (was : slice_g
 
   -- it is outside then
   pub does-leave : (R : Shelf → Shelf → Type 0) → ((h g : Shelf) (start : Lines) → h.seat s ≡ seat_with m.stage (writes_in m.written.lines) start → g.clock.time ≡ w.moment → Moves s outside h g → R h g) →
-      Does s outside R (sight_of v held) (sight_of w (with_member s (forgotten stage.Outside m) held))
+      DoesOn s outside R v held w (with_member s (forgotten stage.Outside m) held)
   does-leave R as-asked =
       does-apart v w held (record (with_member s (forgotten stage.Outside m) held) { numbers = held.numbers }) s m (forgotten stage.Outside m) was (becomes-member held held.numbers s (forgotten stage.Outside m)) (λ e. cc) only.told only.leaves
       (λ h shown stands. same-ledger v w (keeps-it.passes shown.tells) held s (forgotten stage.Outside m) h shown (keeps-it.headers shown.tells) (keeps-it.ceiling shown.tells shown.numbers.ceiling) (kept-stays held.members s held.numbers.next held.numbers.written m (forgotten stage.Outside m) was (omega arith) shown.kept) (keeps-it.facts h shown stands) (rests shown.ledger stands) tt)
-      only.later only.no_fewer outside R refl (λ h shown stands c is. not_resting v shown.ledger s shown.facts (rests shown.ledger stands) c is) (λ h shown stands. record { lines = refl; commit = refl }) space-same
+      only.later only.no_fewer outside R refl (λ h shown stands c is. not_resting v shown.ledger s shown.facts (rests shown.ledger stands) c is) (λ h shown stands. record { lines = refl; journal = refl; commit = refl }) space-same
       (λ h g start related moves. as-asked h g start related.seat related.time_behind moves)
 
 -- a transaction that was rolled back, or is committed
 pub does-close : (v w : View) (held : StoreMemory) (s : ℕ) (m : Member) (was : slice_get held.members s ≡ Some m) (ended : IsEnded m.stage) (only : OnlyWrites (ruj_file s) 0 v w)
     (keeps : IsTrue v.tells → (g : Ledger) → LedgerFacts v g → g.standing s ≡ resting → 1 ≤ g.base.next_tsn → LedgerFacts w g) →
-    Does s (seat_or (stand_at held.members s) (done_at (stand_at held.members s))) (λ h g. IsDone s h g) (sight_of v held) (sight_of w (with_member s (forgotten stage.Outside m) held))
+    DoesOn s (seat_or (stand_at held.members s) (done_at (stand_at held.members s))) (λ h g. IsDone s h g) v held w (with_member s (forgotten stage.Outside m) held)
 does-close v w held s m was ended only keeps =
-    subst (λ (x : Option Member). Does s (seat_or (stand_of x) (done_at (stand_of x))) (λ h g. IsDone s h g) (sight_of v held) (sight_of w (with_member s (forgotten stage.Outside m) held))) (sym was)
-    (subst (λ (x : Option Seat). Does s (seat_or (stand_of (Some m)) x) (λ h g. IsDone s h g) (sight_of v held) (sight_of w (with_member s (forgotten stage.Outside m) held))) (sym (ended-done m.stage ended [] []))
+    subst (λ (x : Option Member). DoesOn s (seat_or (stand_of x) (done_at (stand_of x))) (λ h g. IsDone s h g) v held w (with_member s (forgotten stage.Outside m) held)) (sym was)
+    (subst (λ (x : Option Seat). DoesOn s (seat_or (stand_of (Some m)) x) (λ h g. IsDone s h g) v held w (with_member s (forgotten stage.Outside m) held)) (sym (ended-done m.stage ended [] []))
     (does-leave v w held s m was (λ g stands. ended-rests m.stage ended v g s m stands) only keeps (λ h g. IsDone s h g)
     (λ h g start seat time moves. record { seat = outside; comes = ap done_at seat ∙ ended-done m.stage ended _ start; moves = moves })))
 
@@ -107,7 +107,7 @@ dead-rests v g s m commits at stands = subst (λ x. StageStands x v g s m) at st
 -- its transaction is undone since this moment
 pub does-bury : (v w : View) (held : StoreMemory) (s moment : ℕ) (m : Member) (commits : Bool) (was : slice_get held.members s ≡ Some m) (at : m.stage ≡ stage.Dead commits recovery.Ending) (only : OnlyWrites (ruj_file s) 0 v w)
     (keeps : IsTrue v.tells → (g : Ledger) → LedgerFacts v g → g.standing s ≡ resting → 1 ≤ g.base.next_tsn → LedgerFacts w g) → moment ≡ w.moment →
-    Does s outside (λ h g. IsUndone s moment h g) (sight_of v held) (sight_of w (with_member s (forgotten stage.Outside m) held))
+    DoesOn s outside (λ h g. IsUndone s moment h g) v held w (with_member s (forgotten stage.Outside m) held)
 does-bury v w held s moment m commits was at only keeps same =
     does-leave v w held s m was (λ g stands. dead-rests v g s m commits at stands) only keeps (λ h g. IsUndone s moment h g)
     (λ h g start seat time moves. record { commits = commits; writes = writes_in m.written.lines; was = seat ∙ ap (λ st. seat_with st (writes_in m.written.lines) start) at; moves = moves; at = same ∙ sym time })

@@ -11,7 +11,7 @@ use Rattle.line_view.specs.Knowledge.{Lines}
 use Rattle.line_store.specs.Seats.{beginning, writing, in_flight, done_at, IsMember}
 use Rattle.line_store.specs.Shelves.{Shelf}
 use Rattle.line_store.specs.Calls.{IsDone}
-use Rattle.line_store.specs.Sights.{Does, seat_or}
+use Rattle.line_store.specs.Sights.{seat_or}
 use Rattle.ledger_versions.specs.disk_seats.Ledgers.{Standing, resting, changing, begun_by, Ledger}
 use Rattle.ledger_versions.specs.disk_seats.Members.{LedgerFacts, MemberStands}
 use Rattle.ledger_versions.proofs.of_disk_seats.Begins.{begun_facts}
@@ -28,7 +28,7 @@ use Rattle.disk_store.specs.Memory.{StoreMemory, with_number, begun_with}
 use Rattle.disk_store.specs.Numbers.{kept_in}
 use Rattle.disk_store.specs.Seats.{seat_with, stand_of, stand_at}
 use Rattle.disk_store.specs.Standing.{HasJournalled, StageStands}
-use Rattle.disk_store.specs.Shown.{CeilingStands, Shown, sight_of}
+use Rattle.disk_store.specs.Shown.{DoesOn, CeilingStands, Shown}
 use Rattle.disk_store.proofs.Moving.{itself}
 use Rattle.disk_store.proofs.Beside.{SameHeader, StaysOf, stays-there}
 use Rattle.disk_store.proofs.Stepping.{ComesTo, Becomes, does-step, space-same}
@@ -155,8 +155,8 @@ module _ (v w : View) (held : StoreMemory) (s ceiling : ℕ) (m : Member) (asked
   stood : stand_at held.members s ≡ beginning
   stood = ap stand_of was ∙ ap (λ st. seat_with st [] []) begins
 
-  pub does-draw : Does s (seat_or (stand_at held.members s) (done_at (stand_at held.members s))) (λ h g. IsDone s h g) (sight_of v held) (sight_of w behind)
-  does-draw = subst (λ seat. Does s (seat_or seat (done_at seat)) (λ h g. IsDone s h g) (sight_of v held) (sight_of w behind)) (sym stood)
+  pub does-draw : DoesOn s (seat_or (stand_at held.members s) (done_at (stand_at held.members s))) (λ h g. IsDone s h g) v held w behind
+  does-draw = subst (λ seat. DoesOn s (seat_or seat (done_at seat)) (λ h g. IsDone s h g) v held w behind) (sym stood)
       (does-step v w held behind s m n was becomes (λ e. cc) leads.told leads.leaves comes leads.later leads.no_fewer (writing []) (λ h g. IsDone s h g) refl
-      still (λ h shown stands. record { lines = refl; commit = refl }) space-same
+      still (λ h shown stands. record { lines = refl; journal = refl; commit = refl }) space-same
       (λ h g start related moves. record { seat = writing []; comes = ap done_at related.seat ∙ ap (λ x. done_at (seat_with x (writes_in m.written.lines) start)) begins; moves = moves }))

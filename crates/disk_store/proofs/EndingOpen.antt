@@ -7,7 +7,7 @@ use Rattle.line_view.specs.Knowledge.{Lines}
 use Rattle.line_store.specs.Seats.{Seat}
 use Rattle.line_store.specs.Shelves.{Shelf}
 use Rattle.line_store.specs.Calls.{Moves}
-use Rattle.line_store.specs.Sights.{bare, Does}
+use Rattle.line_store.specs.Sights.{bare}
 use Rattle.snapshot_file.specs.declared.entry.SnapEntry.{SnapEntry}
 use Rattle.line_versions.specs.Files.{entries_in}
 use Rattle.line_versions.specs.Course.{Course}
@@ -31,7 +31,7 @@ use Rattle.disk_store.specs.Memory.{StoreMemory, with_member, at_stage}
 use Rattle.disk_store.specs.Numbers.{kept_at}
 use Rattle.disk_store.specs.Seats.{seat_with}
 use Rattle.disk_store.specs.Standing.{StageStands}
-use Rattle.disk_store.specs.Shown.{WaitsAs, Shown, sight_of}
+use Rattle.disk_store.specs.Shown.{DoesOn, WaitsAs, Shown}
 use Rattle.disk_store.proofs.Moving.{itself}
 use Rattle.disk_store.proofs.Kept.{kept-stays}
 use Rattle.disk_store.proofs.Beside.{StaysOf, same-areas, stays-there}
@@ -133,13 +133,13 @@ module _ (v : View) (held : StoreMemory) (s : ℕ) (m : Member) (was : slice_get
   -- the call of the trait that comes to this
   pub does-end-at : (there : Seat) (R : Shelf → Shelf → Type 0) → bare (seat_with next [] []) ≡ bare there →
       ((h g : Shelf) (start : Lines) → h.seat s ≡ seat_with m.stage (writes_in m.written.lines) start → g.clock.time ≡ v.moment → Moves s (seat_with next (writes_in m.written.lines) start) h g → R h g) →
-      Does s there R (sight_of v held) (sight_of v (with_member s n held))
+      DoesOn s there R v held v (with_member s n held)
   does-end-at there R arrives as-asked =
       does-apart v v held (record (with_member s n held) { numbers = held.numbers }) s m n was (becomes-member held held.numbers s n) plain refl (none-leaves v) ends-now (omega arith) (omega arith) there R arrives
-      (λ h shown stands c is. not_ending v shown.ledger s shown.facts (may shown.ledger stands) c is) (λ h shown stands. record { lines = refl; commit = refl }) space-same (λ h g start related moves. as-asked h g start related.seat related.time_behind moves)
+      (λ h shown stands c is. not_ending v shown.ledger s shown.facts (may shown.ledger stands) c is) (λ h shown stands. record { lines = refl; journal = refl; commit = refl }) space-same (λ h g start related moves. as-asked h g start related.seat related.time_behind moves)
 
   -- at whatever moment
   pub does-end : (there : Seat) (R : Shelf → Shelf → Type 0) → bare (seat_with next [] []) ≡ bare there →
       ((h g : Shelf) (start : Lines) → h.seat s ≡ seat_with m.stage (writes_in m.written.lines) start → Moves s (seat_with next (writes_in m.written.lines) start) h g → R h g) →
-      Does s there R (sight_of v held) (sight_of v (with_member s n held))
+      DoesOn s there R v held v (with_member s n held)
   does-end there R arrives as-asked = does-end-at there R arrives (λ h g start seat time moves. as-asked h g start seat moves)

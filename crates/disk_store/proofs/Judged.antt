@@ -7,7 +7,7 @@ use Rattle.journal_scan.specs.Standing.{what_stands}
 use Rattle.new_database.specs.Maker.{aij_file}
 use Rattle.line_store.specs.Shelves.{Shelf}
 use Rattle.line_store.specs.Calls.{Moves, GoesOn}
-use Rattle.line_store.specs.Sights.{bare, Does}
+use Rattle.line_store.specs.Sights.{bare}
 use Rattle.stable_lines.specs.Journal.{commit_of}
 use Rattle.stable_lines.specs.Progress.{Flight, Progress, flying}
 use Rattle.line_moves.specs.Changes.{IsCommitOf as IsItsCommit}
@@ -25,7 +25,7 @@ use Rattle.disk_store.specs.declared.member.Recovery.TheVariants as recovery
 use Rattle.disk_store.specs.Memory.{StoreMemory, with_member, at_stage}
 use Rattle.disk_store.specs.Seats.{seat_with, stand_of, stand_at, steps_in}
 use Rattle.disk_store.specs.Standing.{IsJudged, StageStands}
-use Rattle.disk_store.specs.Shown.{Shown, sight_of}
+use Rattle.disk_store.specs.Shown.{DoesOn, Shown}
 use Rattle.disk_store.proofs.Moving.{itself}
 use Rattle.disk_store.proofs.Kept.{kept-stays}
 use Rattle.disk_store.proofs.Beside.{StaysWith, same-classes, stays-with}
@@ -139,11 +139,11 @@ module _ (v w : View) (held : StoreMemory) (s : ℕ) (m : Member) (commits : Boo
     fewer a b four three = omega (arith, four, three)
 
     -- it goes on, and is undone
-    pub does-lose : Does s (stand_at held.members s) (λ h g. GoesOn s h g) (sight_of v held) (sight_of w (with_member s n held))
-    does-lose = subst (λ x. Does s (stand_of x) (λ h g. GoesOn s h g) (sight_of v held) (sight_of w (with_member s n held))) (sym was)
+    pub does-lose : DoesOn s (stand_at held.members s) (λ h g. GoesOn s h g) v held w (with_member s n held)
+    does-lose = subst (λ x. DoesOn s (stand_of x) (λ h g. GoesOn s h g) v held w (with_member s n held)) (sym was)
         (does-moves v w held (record (with_member s n held) { numbers = held.numbers }) s m n was (becomes-member held held.numbers s n) (λ e. cc) only.told (reads-leave v w only) given-now
         only.later only.no_fewer (stand_of (Some m)) (λ h g. GoesOn s h g) (ap (λ x. bare (seat_with x [] [])) (sym at))
-        (λ h shown d bad. absurd (no_commit d bad)) (λ h shown stands. refl) space-same
+        (λ h shown d bad. absurd (no_commit d bad)) (λ h shown stands. refl) (λ h shown stands. refl) space-same
         (λ h g start related moves. record {
           moves = subst (λ x. Moves s x h g) (ap (λ x. seat_with x (writes_in m.written.lines) start) (sym at) ∙ sym related.seat) moves;
           less = fewer (h.steps s) (g.steps s) (related.steps ∙ ap (λ x. steps_in x m) at) related.steps_behind;

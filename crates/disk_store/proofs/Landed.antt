@@ -1,12 +1,12 @@
 -- What is shown behind a commit that lands: where the next group is, pages, and the space that is taken.
-use Rattle.std.proofs.Common.{◌≡◌, ◌+◌, ◌-◌, ◌==◌, ◌&&◌, ◌%◌, inl, inr, ◌⊎◌, ℕ, Bool, true, false, not, nat_le, [], ◌∷◌, length, Some, refl, sym, ap, subst, ◌∙◌, arith}
+use Rattle.std.proofs.Common.{◌≡◌, ◌+◌, ◌-◌, ◌==◌, ◌&&◌, ◌%◌, inl, inr, ◌⊎◌, ℕ, Bool, true, false, not, nat_le, [], ◌∷◌, length, Option, Some, refl, sym, ap, subst, ◌∙◌, arith}
 use Rattle.std.specs.Prelude.{slice_get}
 use Rattle.std.specs.List.{flat_map}
 use Rattle.std.proofs.lemmas.List.{length-append}
 use Rattle.std.proofs.lemmas.List.Concat.{flat_map-append}
 use Rattle.std.proofs.lemmas.Bool.{leb-true}
 use Rattle.rdb_page.specs.Page.{IsOwner}
-use Rattle.rdb_outside.specs.Disk.{View}
+use Rattle.rdb_outside.specs.Disk.{View, Pending}
 use Rattle.journal_scan.specs.declared.group.Group.{Group}
 use Rattle.journal_scan.specs.Whole.{slots_from, slots_of}
 use Rattle.line_view.specs.Knowledge.{Lines}
@@ -14,8 +14,16 @@ use Rattle.line_view.specs.Writes.{laid_all}
 use Rattle.line_store.specs.Shelves.{Shelf, Space}
 use Rattle.line_store.specs.Calls.{TakesGroup}
 use Rattle.stable_lines.specs.Journal.{Journal, next_number, next_slot, with_group}
+use Rattle.stable_lines.specs.Progress.{flying, landed as with_landed}
+use Rattle.stable_lines.specs.Facts.{Facts}
+use Rattle.stable_lines.specs.Rolling.{IsBehind}
+use Rattle.stable_lines.proofs.Rolls.{behind_lands}
 use Rattle.line_moves.specs.Lines.{ChangedLines}
-use Rattle.ledger_versions.specs.disk_seats.Ledgers.{Ledger}
+use Rattle.line_seat.specs.declared.commit.CommitStage.{CommitStage}
+use Rattle.line_seat.specs.declared.commit.CommitStage.TheVariants as commit_stage
+use Rattle.line_seat.specs.Stages.{progress_at}
+use Rattle.ledger_versions.specs.disk_seats.Ledgers.{Commit, Ledger, flies, progress_with}
+use Rattle.ledger_versions.specs.disk_seats.Members.{LedgerFacts}
 use Rattle.member_rooms.specs.committed_tables.Tables.{HasCommitted}
 use Rattle.member_rooms.specs.page_table.Pages.{owner_in, IsWithin}
 use Rattle.member_rooms.specs.store_shows.Rooms.{is_free}
@@ -26,7 +34,7 @@ use Rattle.disk_store.specs.declared.held.Tables.{Tables}
 use Rattle.disk_store.specs.Dying.{forgotten}
 use Rattle.disk_store.specs.Landing.{PutsAll, landed_with}
 use Rattle.disk_store.specs.Memory.{StoreMemory}
-use Rattle.disk_store.specs.Shown.{TablesStand, Shown, pages_of}
+use Rattle.disk_store.specs.Shown.{RollsOn, TablesStand, Shown, pages_of}
 use Rattle.disk_store.specs.Sound.{IsSound}
 use Rattle.disk_store.proofs.Written.{lines-counted}
 use Rattle.disk_store.proofs.LinesPut.{SamePages, all-same, all-committed}
@@ -48,6 +56,21 @@ slot-behind j g =
 
 pub number-behind : (j : Journal) (g : Group) → next_number (with_group j g) ≡ next_number j + 1
 number-behind j g = let both = length-append j.groups (g ∷ []) in omega (arith, both)
+
+-- a backup that was behind what is committed is behind the commit whose group flew and stands
+pub rolls-landed : (v : View) (g : Ledger) (c : Commit) → LedgerFacts v g → g.commit ≡ Some c → flies c.stage ≡ true → RollsOn g.base (with_landed c.flight g.base)
+rolls-landed v g c facts under flown base last was from =
+    let behind : IsBehind base last g.base = was from in
+    let flew = behind_lands (Pending v) (flying c.flight g.base) c.flight refl (aloft c.stage flown (subst (λ (x : Option Commit). Facts (Pending v) (progress_with x g.base)) under facts.facts)) base last (record { below = behind.below; gives = behind.gives }) in
+    record { below = flew.below; gives = flew.gives }
+  where
+    aloft : (st : CommitStage) → flies st ≡ true → Facts (Pending v) (progress_at st g.base c.flight) → Facts (Pending v) (flying c.flight g.base)
+    aloft (commit_stage.Changing at) flown facts = absurd (cc)
+    aloft (commit_stage.Imaging at) flown facts = absurd (cc)
+    aloft commit_stage.Gathering flown facts = absurd (cc)
+    aloft commit_stage.Sealing flown facts = facts
+    aloft commit_stage.Landing flown facts = facts
+    aloft commit_stage.Committed flown facts = absurd (cc)
 
 -- ---- pages
 

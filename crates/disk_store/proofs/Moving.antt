@@ -10,7 +10,7 @@ use Rattle.line_view.specs.Knowledge.{Lines}
 use Rattle.line_store.specs.Seats.{Seat, in_flight}
 use Rattle.line_store.specs.Shelves.{Shelf}
 use Rattle.line_store.specs.Calls.{Moves}
-use Rattle.line_store.specs.Sights.{bare, Does}
+use Rattle.line_store.specs.Sights.{bare}
 use Rattle.ledger_versions.specs.disk_seats.Ledgers.{Ledger, Commit}
 use Rattle.ledger_versions.specs.disk_versions.Courses.{course_read}
 use Rattle.ledger_versions.specs.Readers.{Waiting}
@@ -24,7 +24,7 @@ use Rattle.disk_store.specs.Memory.{StoreMemory, with_member, at_stage}
 use Rattle.disk_store.specs.Numbers.{kept_at}
 use Rattle.disk_store.specs.Seats.{seat_with, stand_of, stand_at, steps_in, steps_of, steps_at}
 use Rattle.disk_store.specs.Standing.{StageStands}
-use Rattle.disk_store.specs.Shown.{Sits, SitsAs, WaitsAs, IsReading, Shown, sight_of}
+use Rattle.disk_store.specs.Shown.{DoesOn, Sits, SitsAs, WaitsAs, IsReading, Shown}
 use Rattle.disk_store.proofs.Members.{set-here, set-beside}
 use Rattle.disk_store.proofs.Kept.{kept-stays}
 use Rattle.disk_store.proofs.NoBackups.{copier-stays}
@@ -130,7 +130,7 @@ module _ (v : View) (held : StoreMemory) (s : ℕ) (m : Member) (next : MemberSt
       let it = shown.versions.reading t x start (sym (beside t apart) ∙ is) reads (sym (seat-beside (sat h shown).start h t apart) ∙ seat) in
       record { reading = it.reading; goes = reader-beside s shown.versions.course t apart ∙ it.goes; kept = it.kept; lines = it.lines; ordered = it.ordered }
 
-  shown-behind : (h : Shelf) (shown : Shown v held h) → Shown v behind (moved (sat h shown).start h)
+  abbrev shown-behind : (h : Shelf) (shown : Shown v held h) → Shown v behind (moved (sat h shown).start h)
   shown-behind h shown = record {
     tells = shown.tells;
     ledger = shown.ledger;
@@ -172,18 +172,21 @@ module _ (v : View) (held : StoreMemory) (s : ℕ) (m : Member) (next : MemberSt
   -- the call of the trait that comes to this
   pub does-move : (there : Seat) (R : Shelf → Shelf → Type 0) → bare (seat_with next [] []) ≡ bare there →
       ((h g : Shelf) (start : Lines) → h.seat s ≡ seat_with m.stage ws start → Moves s (seat_with next ws start) h g → R h g) →
-      Does s there R (sight_of v held) (sight_of v behind)
+      DoesOn s there R v held v behind
   does-move there R comes as-asked = record {
-    mine = ap (λ x. bare (stand_of x)) here ∙ comes;
-    others = λ t apart. ap (λ x. bare (stand_of x)) (beside t apart);
-    steps = λ t apart. ap steps_of (beside t apart);
-    copier = λ number. copier-stays (stand_at held.members s) (Some (at_stage next m)) there s number comes;
-    each = λ h shown. record {
-      shelf = moved (sat h shown).start h;
-      shown = shown-behind h shown;
-      related = as-asked h (moved (sat h shown).start h) (sat h shown).start (sat h shown).is (moves (sat h shown).start h);
-      lasts = record { since = λ t lines early is. inl is };
-      opens = λ t early was. was;
-      backed = λ number t lines early apart was. was;
+    does = record {
+      mine = ap (λ x. bare (stand_of x)) here ∙ comes;
+      others = λ t apart. ap (λ x. bare (stand_of x)) (beside t apart);
+      steps = λ t apart. ap steps_of (beside t apart);
+      copier = λ number. copier-stays (stand_at held.members s) (Some (at_stage next m)) there s number comes;
+      each = λ h shown. record {
+        shelf = moved (sat h shown).start h;
+        shown = shown-behind h shown;
+        related = as-asked h (moved (sat h shown).start h) (sat h shown).start (sat h shown).is (moves (sat h shown).start h);
+        lasts = record { since = λ t lines early is. inl is };
+        opens = λ t early was. was;
+        backed = λ number t lines early apart was. was;
+      };
     };
+    rolls = λ h shown base last was. was;
   }

@@ -11,8 +11,7 @@ use Rattle.line_store.specs.Shelves.{Shelf}
 use Rattle.line_store.specs.Calls.{Moves, GoesOn, Fails}
 use Rattle.line_store.specs.declared.answers.Fault.TheVariants.{Bad}
 use Rattle.line_store.specs.Seats.{failed_at}
-use Rattle.line_store.specs.Sights.{bare, Does}
-use Rattle.line_store.proofs.InTurn.{does-nothing}
+use Rattle.line_store.specs.Sights.{bare}
 use Rattle.line_moves.specs.Calls.{OnlyWrites}
 use Rattle.ledger_versions.specs.disk_seats.Ledgers.{resting, Ledger}
 use Rattle.ledger_versions.specs.disk_seats.Members.{LedgerFacts}
@@ -28,7 +27,7 @@ use Rattle.disk_store.specs.Memory.{StoreMemory, at_stage, begun_with}
 use Rattle.disk_store.specs.Numbers.{kept_at, kept_in, raised_to, with_raised, with_settled}
 use Rattle.disk_store.specs.Seats.{seat_with, stand_of, stand_at, steps_in}
 use Rattle.disk_store.specs.Standing.{StageStands}
-use Rattle.disk_store.specs.Shown.{CeilingStands, Shown, sight_of}
+use Rattle.disk_store.specs.Shown.{DoesOn, CeilingStands, Shown}
 use Rattle.disk_store.proofs.Kept.{kept-set}
 use Rattle.disk_store.proofs.Stepping.{ComesTo, Becomes, does-apart, space-same}
 use Rattle.disk_store.proofs.Passing.{Passes, header-beside, header-read, headers-all, passes-none, passes-aside, passes-reads, none-leaves, reads-leave, tables-pass, slots-pass, reads-ceiling}
@@ -95,13 +94,16 @@ leads-read v w held only keeps = record {
 pub number-is-kept : (v : View) (held : StoreMemory) (s : ℕ) (m : Member) → slice_get held.members s ≡ Some m → m.stage ≡ stage.Beginning Raised → (h : Shelf) → Shown v held h → held.numbers.next < held.numbers.written
 number-is-kept v held s m was begins h shown = let fewer = one-kept held.members s m (begun_with held.numbers.next m) was begins refl in omega (arith, fewer, shown.kept)
 
-pub does-none : (v w : View) (held : StoreMemory) (s : ℕ) (m : Member) → slice_get held.members s ≡ Some m → m.stage ≡ stage.Beginning Raised → held.numbers.written ≤ held.numbers.next → (R : Shelf → Shelf → Type 0) → Does s (stand_at held.members s) R (sight_of v held) (sight_of w (with_settled held))
+pub does-none : (v w : View) (held : StoreMemory) (s : ℕ) (m : Member) → slice_get held.members s ≡ Some m → m.stage ≡ stage.Beginning Raised → held.numbers.written ≤ held.numbers.next → (R : Shelf → Shelf → Type 0) → DoesOn s (stand_at held.members s) R v held w (with_settled held)
 does-none v w held s m was begins none R = record {
-  mine = refl;
-  others = λ t apart. refl;
-  steps = λ t apart. refl;
-  copier = λ number. copier-stays (stand_at held.members s) (slice_get held.members s) (stand_at held.members s) s number refl;
-  each = λ h shown. absurd (let kept = number-is-kept v held s m was begins h shown in omega (arith, kept, none));
+  does = record {
+    mine = refl;
+    others = λ t apart. refl;
+    steps = λ t apart. refl;
+    copier = λ number. copier-stays (stand_at held.members s) (slice_get held.members s) (stand_at held.members s) s number refl;
+    each = λ h shown. absurd (let kept = number-is-kept v held s m was begins h shown in omega (arith, kept, none));
+  };
+  rolls = λ h shown. absurd (let kept = number-is-kept v held s m was begins h shown in omega (arith, kept, none));
 }
 
 -- ---- another's root waits for a barrier, or one is written
@@ -168,10 +170,10 @@ module _ (v w : View) (held : StoreMemory) (s ceiling : ℕ) (m : Member) (was :
   fewer a b one none = omega (arith, one, none)
 
   -- it goes on
-  pub does-raise : Does s (stand_at held.members s) (λ h g. GoesOn s h g) (sight_of v held) (sight_of w behind)
-  does-raise = subst (λ x. Does s (stand_of x) (λ h g. GoesOn s h g) (sight_of v held) (sight_of w behind)) (sym was)
+  pub does-raise : DoesOn s (stand_at held.members s) (λ h g. GoesOn s h g) v held w behind
+  does-raise = subst (λ x. DoesOn s (stand_of x) (λ h g. GoesOn s h g) v held w behind) (sym was)
       (does-apart v w held behind s m n was becomes (λ e. cc) leads.told leads.leaves waits-now leads.later leads.no_fewer (stand_of (Some m)) (λ h g. GoesOn s h g) (ap (λ x. bare (seat_with x [] [])) (sym begins))
-      (λ h shown stands c is. not_resting v shown.ledger s shown.facts (rests shown.ledger stands) c is) (λ h shown stands. record { lines = refl; commit = refl }) space-same
+      (λ h shown stands c is. not_resting v shown.ledger s shown.facts (rests shown.ledger stands) c is) (λ h shown stands. record { lines = refl; journal = refl; commit = refl }) space-same
       (λ h g start related moves. record {
         moves = subst (λ x. Moves s x h g) (ap (λ x. seat_with x (writes_in m.written.lines) start) (sym begins) ∙ sym related.seat) moves;
         less = fewer (h.steps s) (g.steps s) (related.steps ∙ ap (λ x. steps_in x m) begins) related.steps_behind;
@@ -246,13 +248,29 @@ module _ (v w : View) (held : StoreMemory) (root : Root) (only : OnlyWrites root
 
 -- the numbers are used up, and nothing changes
 pub does-refuse-now : (v : View) (held : StoreMemory) (s : ℕ) (m : Member) → slice_get held.members s ≡ Some m → m.stage ≢ stage.Changing → (file : _) (slot : ℕ) → 2 ^ 62 - 64 < held.numbers.ceiling
-    → Does s (failed_at (stand_at held.members s)) (λ h g. Fails s (Bad file slot) h g) (sight_of v held) (sight_of v held)
-does-refuse-now v held s m was other file slot spent = does-failed held s m was other (λ h g. Fails s (Bad file slot) h g) (sight_of v held) (sight_of v held) (does-nothing s (λ h g. Fails s (Bad file slot) h g) (sight_of v held) (λ h shown. record {
-  moves = record {
-    now = refl;
-    mine = sym (sits-failed v held s m was other h shown);
-    others = record { seat = λ t apart. refl; steps = λ t apart. refl; later = record { later = omega arith; no_fewer = omega arith } };
-    space = space-same h.space;
+    → DoesOn s (failed_at (stand_at held.members s)) (λ h g. Fails s (Bad file slot) h g) v held v held
+does-refuse-now v held s m was other file slot spent = does-failed held s m was other (λ h g. Fails s (Bad file slot) h g) v v held held (record {
+  does = record {
+    mine = refl;
+    others = λ t apart. refl;
+    steps = λ t apart. refl;
+    copier = λ number. copier-stays (stand_at held.members s) (slice_get held.members s) (stand_at held.members s) s number refl;
+    each = λ h shown. record {
+      shelf = h;
+      shown = shown;
+      related = record {
+        moves = record {
+          now = refl;
+          mine = sym (sits-failed v held s m was other h shown);
+          others = record { seat = λ t apart. refl; steps = λ t apart. refl; later = record { later = omega arith; no_fewer = omega arith } };
+          space = space-same h.space;
+        };
+        cause = subst (λ (n : ℕ). 2 ^ 62 - 64 < n) (sym shown.promised) spent;
+      };
+      lasts = record { since = λ t lines early is. inl is };
+      opens = λ t early was. was;
+      backed = λ number t lines early apart was. was;
+    };
   };
-  cause = subst (λ (n : ℕ). 2 ^ 62 - 64 < n) (sym shown.promised) spent;
-}))
+  rolls = λ h shown base last was. was;
+})

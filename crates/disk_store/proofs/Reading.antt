@@ -12,7 +12,7 @@ use Rattle.line_store.specs.declared.answers.ReadStop.TheVariants as read
 use Rattle.line_store.specs.Seats.{Seat, IsAtRest, failed_at}
 use Rattle.line_store.specs.Shelves.{Shelf}
 use Rattle.line_store.specs.Calls.{Moves}
-use Rattle.line_store.specs.Sights.{Does, Reads}
+use Rattle.line_store.specs.Sights.{Reads}
 use Rattle.line_store.proofs.Causes.{cause-of}
 use Rattle.ledger_versions.specs.disk_seats.Ledgers.{Ledger}
 use Rattle.ledger_versions.specs.disk_seats.Members.{LedgerFacts}
@@ -23,7 +23,7 @@ use Rattle.disk_store.proofs.Agreeing.{shown-opens}
 use Rattle.disk_store.specs.declared.member.Member.{Member}
 use Rattle.disk_store.specs.Memory.{StoreMemory}
 use Rattle.disk_store.specs.Seats.{seat_with, stand_of, stand_at}
-use Rattle.disk_store.specs.Shown.{Sits, Shown, sight_of}
+use Rattle.disk_store.specs.Shown.{DoesOn, Sits, Shown}
 use Rattle.disk_store.proofs.Beside.{stays-there}
 use Rattle.disk_store.proofs.Passing.{Passes, header-read, passes-reads, reads-leave, reads-ceiling, tables-pass, slots-pass}
 use Rattle.disk_store.proofs.Failing.{sits-failed}
@@ -52,7 +52,7 @@ module _ (v w : View) (held : StoreMemory) (s : ℕ) (reads : OnlyReads v w) whe
     sits-still t None seat sits = sits
     sits-still t (Some x) seat sits = record { start = sits.start; is = sits.is; stands = stays-there v w g g t p.areas (record { standing = inl refl; going = refl; commit = refl }) x (header-read v w shown.tells reads t) sits.stands }
 
-    shown-after : Shown w held after
+    abbrev shown-after : Shown w held after
     shown-after = record {
       tells = reads.told ∙ shown.tells;
       ledger = g;
@@ -91,26 +91,29 @@ module _ (v w : View) (held : StoreMemory) (s : ℕ) (reads : OnlyReads v w) whe
       space = space-same h.space;
     }
 
-  does-look : (R : Shelf → Shelf → Type 0) → ((h k : Shelf) → Shown v held h → Moves s (h.seat s) h k → h.clock.faults ≡ v.faults → k.clock.faults ≡ w.faults → R h k) → Does s (stand_at held.members s) R (sight_of v held) (sight_of w held)
+  does-look : (R : Shelf → Shelf → Type 0) → ((h k : Shelf) → Shown v held h → Moves s (h.seat s) h k → h.clock.faults ≡ v.faults → k.clock.faults ≡ w.faults → R h k) → DoesOn s (stand_at held.members s) R v held w held
   does-look R as-asked = record {
-    mine = refl;
-    others = λ t apart. refl;
-    steps = λ t apart. refl;
-    copier = λ number. copier-stays (stand_at held.members s) (slice_get held.members s) (stand_at held.members s) s number refl;
-    each = λ h shown. record {
-      shelf = after h shown;
-      shown = shown-after h shown;
-      related = as-asked h (after h shown) shown (moves h shown) shown.lines.faults refl;
-      lasts = lasts_with v w h (after h shown) shown.lines.time (reads-leave v w reads shown.tells) (may_stand v shown.ledger h shown.facts shown.lines) (may_stand w shown.ledger (after h shown) (facts h shown) (lines-stand h shown));
-      opens = all-open v w h shown.lines.time (reads-leave v w reads shown.tells) (shown-opens v held h shown) (shown-opens w held (after h shown) (shown-after h shown));
-      backed = λ number t lines early apart was. was;
+    does = record {
+      mine = refl;
+      others = λ t apart. refl;
+      steps = λ t apart. refl;
+      copier = λ number. copier-stays (stand_at held.members s) (slice_get held.members s) (stand_at held.members s) s number refl;
+      each = λ h shown. record {
+        shelf = after h shown;
+        shown = shown-after h shown;
+        related = as-asked h (after h shown) shown (moves h shown) shown.lines.faults refl;
+        lasts = lasts_with v w h (after h shown) shown.lines.time (reads-leave v w reads shown.tells) (may_stand v shown.ledger h shown.facts shown.lines) (may_stand w shown.ledger (after h shown) (facts h shown) (lines-stand h shown));
+        opens = all-open v w h shown.lines.time (reads-leave v w reads shown.tells) (shown-opens v held h shown) (shown-opens w held (after h shown) (shown-after h shown));
+        backed = λ number t lines early apart was. was;
+      };
     };
+    rolls = λ h shown base last was. was;
   }
 
-  pub reads-done : Does s (stand_at held.members s) (Reads s (Ok Done)) (sight_of v held) (sight_of w held)
+  pub reads-done : DoesOn s (stand_at held.members s) (Reads s (Ok Done)) v held w held
   reads-done = does-look (Reads s (Ok Done)) (λ h k shown moves before behind. moves)
 
-  pub reads-no-memory : Does s (stand_at held.members s) (Reads s (Err read.NoMemory)) (sight_of v held) (sight_of w held)
+  pub reads-no-memory : DoesOn s (stand_at held.members s) (Reads s (Err read.NoMemory)) v held w held
   reads-no-memory = does-look (Reads s (Err read.NoMemory)) (λ h k shown moves before behind. moves)
 
   -- who rests stays in its seat where a call fails
@@ -121,12 +124,12 @@ module _ (v w : View) (held : StoreMemory) (s : ℕ) (reads : OnlyReads v w) whe
       by None is sits quiet = ap failed_at sits.0 ∙ sym sits.0
       by (Some m) is sits quiet = sits-failed v held s m is (λ changes. subst (λ st. IsAtRest (seat_with st [] [])) changes quiet) h shown
 
-  pub reads-fault : IsAtRest (stand_at held.members s) → (fault : Fault) → (fault ≡ Failed → Rose v.faults w.faults) → ((h : Shelf) → Shown v held h → (file : FileId) (slot : ℕ) → fault ≡ Bad file slot → ⊥) → Does s (stand_at held.members s) (Reads s (Err (read.Fault fault))) (sight_of v held) (sight_of w held)
+  pub reads-fault : IsAtRest (stand_at held.members s) → (fault : Fault) → (fault ≡ Failed → Rose v.faults w.faults) → ((h : Shelf) → Shown v held h → (file : FileId) (slot : ℕ) → fault ≡ Bad file slot → ⊥) → DoesOn s (stand_at held.members s) (Reads s (Err (read.Fault fault))) v held w held
   reads-fault rests fault rose good = does-look (Reads s (Err (read.Fault fault))) (λ h k shown moves before behind. record {
     moves = subst (λ (seat : Seat). Moves s seat h k) (sym (rested rests h shown)) moves;
     cause = cause-of fault h.clock k.clock v.faults w.faults rose (λ file slot is. absurd (good h shown file slot is)) before behind;
   })
 
-  pub reads-stop : IsAtRest (stand_at held.members s) → (stop : ReadStop) → (stop ≡ read.Fault Failed → Rose v.faults w.faults) → ((h : Shelf) → Shown v held h → (file : FileId) (slot : ℕ) → stop ≡ read.Fault (Bad file slot) → ⊥) → Does s (stand_at held.members s) (Reads s (Err stop)) (sight_of v held) (sight_of w held)
+  pub reads-stop : IsAtRest (stand_at held.members s) → (stop : ReadStop) → (stop ≡ read.Fault Failed → Rose v.faults w.faults) → ((h : Shelf) → Shown v held h → (file : FileId) (slot : ℕ) → stop ≡ read.Fault (Bad file slot) → ⊥) → DoesOn s (stand_at held.members s) (Reads s (Err stop)) v held w held
   reads-stop rests read.NoMemory rose good = reads-no-memory
   reads-stop rests (read.Fault fault) rose good = reads-fault rests fault (λ is. rose (ap (λ (x : Fault). read.Fault x) is)) (λ h shown file slot is. good h shown file slot (ap (λ (x : Fault). read.Fault x) is))

@@ -4,7 +4,7 @@ use Rattle.std.specs.Prelude.{slice_get, if◌then◌else◌}
 use Rattle.rdb_outside.specs.Disk.{View, LeftNow, OnlyReads, IsStable}
 use Rattle.line_store.specs.Shelves.{Shelf}
 use Rattle.line_store.specs.Calls.{Moves, GoesOn}
-use Rattle.line_store.specs.Sights.{bare, Does}
+use Rattle.line_store.specs.Sights.{bare}
 use Rattle.line_versions.specs.Course.{Course}
 use Rattle.reader_lines.specs.version_writing.Tables.{HoldsAll}
 use Rattle.ledger_versions.specs.disk_seats.Ledgers.{resting, ended_by, Ledger}
@@ -21,7 +21,7 @@ use Rattle.disk_store.specs.declared.member.Recovery.TheVariants as recovery
 use Rattle.disk_store.specs.Memory.{StoreMemory, with_member, at_stage}
 use Rattle.disk_store.specs.Seats.{seat_with, stand_of, stand_at, steps_in}
 use Rattle.disk_store.specs.Standing.{IsUndone, StageStands}
-use Rattle.disk_store.specs.Shown.{Shown, sight_of}
+use Rattle.disk_store.specs.Shown.{DoesOn, Shown}
 use Rattle.disk_store.proofs.Moving.{itself}
 use Rattle.disk_store.proofs.Kept.{kept-stays}
 use Rattle.disk_store.proofs.Beside.{StaysOf, stays-there}
@@ -107,11 +107,11 @@ module _ (v w : View) (held : StoreMemory) (s : ℕ) (m : Member) (commits : Boo
   fewer a b two one = omega (arith, two, one)
 
   -- it goes on
-  pub does-restore : Does s (stand_at held.members s) (λ h g. GoesOn s h g) (sight_of v held) (sight_of w (with_member s n held))
-  does-restore = subst (λ x. Does s (stand_of x) (λ h g. GoesOn s h g) (sight_of v held) (sight_of w (with_member s n held))) (sym was)
+  pub does-restore : DoesOn s (stand_at held.members s) (λ h g. GoesOn s h g) v held w (with_member s n held)
+  does-restore = subst (λ x. DoesOn s (stand_of x) (λ h g. GoesOn s h g) v held w (with_member s n held)) (sym was)
       (does-apart v w held (record (with_member s n held) { numbers = held.numbers }) s m n was (becomes-member held held.numbers s n) (λ e. cc) only.told (reads-leave v w only) restored-now
       only.later only.no_fewer (stand_of (Some m)) (λ h g. GoesOn s h g) (ap (λ x. bare (seat_with x [] [])) (sym at))
-      (λ h shown stands c is. let undone = undone-at shown.ledger stands in not_undoing v shown.ledger s shown.facts undone.all 0 undone.stands c is) (λ h shown stands. record { lines = refl; commit = refl }) space-same
+      (λ h shown stands c is. let undone = undone-at shown.ledger stands in not_undoing v shown.ledger s shown.facts undone.all 0 undone.stands c is) (λ h shown stands. record { lines = refl; journal = refl; commit = refl }) space-same
       (λ h g start related moves. record {
         moves = subst (λ x. Moves s x h g) (ap (λ x. seat_with x (writes_in m.written.lines) start) (sym at) ∙ sym related.seat) moves;
         less = fewer (h.steps s) (g.steps s) (related.steps ∙ ap (λ x. steps_in x m) at) related.steps_behind;

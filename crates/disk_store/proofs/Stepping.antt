@@ -1,5 +1,5 @@
 -- A step of a session: what is shown behind it.
-use Rattle.std.proofs.Common.{◌≡◌, ◌≢◌, ◌≤◌, ◌+◌, ◌==◌, ◌⊎◌, ℕ, Bool, true, false, IsTrue, List, [], Option, Some, None, refl, sym, ap, subst, ◌∙◌, arith}
+use Rattle.std.proofs.Common.{◌≡◌, ◌≢◌, ◌≤◌, ◌<◌, ◌+◌, ◌==◌, ◌⊎◌, ℕ, Bool, true, false, IsTrue, List, [], Option, Some, None, refl, sym, ap, subst, ◌∙◌, arith}
 use Rattle.std.specs.Prelude.{slice_get, slice_set, if◌then◌else◌}
 use Rattle.std.proofs.lemmas.Bool.{eqb-true}
 use Rattle.std.proofs.lemmas.Option.{same_Some, none-some}
@@ -10,12 +10,14 @@ use Rattle.line_view.specs.Writes.{laid_all}
 use Rattle.line_store.specs.Seats.{Seat, in_flight}
 use Rattle.line_store.specs.Shelves.{Shelf, Space}
 use Rattle.line_store.specs.Calls.{Moves, KeepsOthers, KeepsSpace, Lasts}
-use Rattle.line_store.specs.Sights.{bare, Does}
+use Rattle.line_store.specs.Sights.{bare}
 use Rattle.line_versions.specs.Course.{Course}
 use Rattle.ledger_versions.specs.disk_seats.Ledgers.{resting, Ledger, Commit}
 use Rattle.ledger_versions.specs.disk_versions.Courses.{course_read}
 use Rattle.ledger_versions.specs.disk_seats.Members.{LedgerFacts}
-use Rattle.stable_lines.specs.Journal.{lines_behind}
+use Rattle.stable_lines.specs.Journal.{Journal, lines_behind, next_number}
+use Rattle.stable_lines.specs.Progress.{Progress}
+use Rattle.stable_lines.specs.Rolling.{rolled, IsBehind}
 use Rattle.reader_lines.specs.version_writing.Tables.{HoldsAll}
 use Rattle.ledger_versions.specs.Readers.{ReaderFacts, Waiting}
 use Rattle.ledger_versions.proofs.Written.{reader_ends}
@@ -31,7 +33,7 @@ use Rattle.disk_store.specs.Memory.{StoreMemory, with_member}
 use Rattle.disk_store.specs.Numbers.{kept_in}
 use Rattle.disk_store.specs.Seats.{seat_with, stand_of, stand_at, steps_in, steps_of, steps_at}
 use Rattle.disk_store.specs.Standing.{StageStands}
-use Rattle.disk_store.specs.Shown.{Sits, SitsAs, NumbersStand, TablesStand, WaitPushed, WaitsAs, IsReading, AreUnused, HaveStarts, SpaceStands, Shown, sight_of}
+use Rattle.disk_store.specs.Shown.{DoesOn, RollsOn, Sits, SitsAs, NumbersStand, TablesStand, WaitPushed, WaitsAs, IsReading, AreUnused, HaveStarts, SpaceStands, Shown}
 use Rattle.disk_store.proofs.Members.{set-here, set-beside, get-within}
 use Rattle.disk_store.proofs.Readers.{reader-beside, readers-still, starts-still}
 use Rattle.disk_store.proofs.Moving.{itself}
@@ -58,10 +60,20 @@ pub record ComesTo (v w : View) (behind : StoreMemory) (s : ℕ) (n : Member) (g
   pub waits_beside : (t : ℕ) → (t == s) ≡ false → waiting_behind t ≡ waiting t
   pub reads : (t : ℕ) → course_behind.reader t ≡ course.reader t
 
--- what is committed and the commit that is under way stay
+-- what is committed, its journal and the commit that is under way stay
 pub record StillCommits (g h : Ledger) : Type 0 where
   pub lines : h.base.lines ≡ g.base.lines
+  pub journal : h.base.journal ≡ g.base.journal
   pub commit : h.commit ≡ g.commit
+
+-- so each backup goes on giving what is committed
+rolls-same : (g h : Progress) → h.lines ≡ g.lines → h.journal ≡ g.journal → RollsOn g h
+rolls-same g h lines journal base last was from =
+    let behind : IsBehind base last g = was (subst (λ (j : Journal). 1 ≤ j.first) journal from) in
+    record {
+      below = subst (λ (j : Journal). last < next_number j) (sym journal) behind.below;
+      gives = lines ∙ behind.gives ∙ ap (λ (j : Journal). rolled base last j.groups) (sym journal);
+    }
 
 -- The memory behind a step: the session's member is another, and no limit is. What is known of the room stays in order.
 pub record Becomes (held behind : StoreMemory) (s : ℕ) (n : Member) : Type 0 where
@@ -180,7 +192,7 @@ module _ (v w : View) (held behind : StoreMemory) (s : ℕ) (m n : Member) (was 
       lines-stand : ShowsLines w to.ledger shelf
       lines-stand = record { now = refl; time = refl; faults = refl; flight = flight }
 
-      shown-behind : Shown w behind shelf
+      abbrev shown-behind : Shown w behind shelf
       shown-behind = record {
         tells = told ∙ shown.tells;
         ledger = to.ledger;
@@ -228,45 +240,50 @@ module _ (v w : View) (held behind : StoreMemory) (s : ℕ) (m n : Member) (was 
   -- time goes on
   module _ (later : v.moment ≤ w.moment) (no-fewer : v.faults ≤ w.faults) (there : Seat) (R : Shelf → Shelf → Type 0) (arrives : bare (seat_with n.stage [] []) ≡ bare there) where
     pub does-any : ((h : Shelf) (shown : Shown v held h) (c : Commit) → (to h shown).ledger.commit ≡ Some c → IsInFlight (to h shown).ledger c.flight ((shelf h shown).seat c.member)) →
-        ((h g : Shelf) (start : Lines) → Related h g start → R h g) → Does s there R (sight_of v held) (sight_of w behind)
-    does-any flight as-asked = record {
-      mine = ap (λ x. bare (stand_of x)) here ∙ arrives;
-      others = λ t apart. ap (λ x. bare (stand_of x)) (beside t apart);
-      steps = λ t apart. ap steps_of (beside t apart);
-      copier = λ number. copier-stays (stand_at held.members s) (Some n) there s number arrives;
-      each = λ h shown. record {
-        shelf = shelf h shown;
-        shown = shown-behind h shown (flight h shown);
-        related = as-asked h (shelf h shown) (sat h shown).start (record {
-          shown = shown;
-          stands = (sat h shown).stands;
-          seat = (sat h shown).is;
-          steps = shown.steps s ∙ ap steps_of was;
-          now_behind = refl;
-          seat_behind = seat-here (to h shown).ledger.base.lines (sat h shown).start h;
-          steps_behind = steps-here (to h shown).ledger.base.lines (sat h shown).start h;
-          space_behind = refl;
-          time_behind = refl;
-          faults_behind = refl;
-          promised_behind = refl;
-          others = record {
-            seat = λ t apart. seat-beside (to h shown).ledger.base.lines (sat h shown).start h t apart;
-            steps = λ t apart. steps-beside (to h shown).ledger.base.lines (sat h shown).start h t apart;
-            later = record { later = subst (λ (n : ℕ). n ≤ w.moment) (sym shown.lines.time) later; no_fewer = subst (λ (n : ℕ). n ≤ w.faults) (sym shown.lines.faults) no-fewer };
-          };
-        });
-        lasts = shelf-lasts h shown (flight h shown);
-        opens = all-open v w h shown.lines.time (leaves shown.tells) (shown-opens v held h shown) (shown-opens w behind (shelf h shown) (shown-behind h shown (flight h shown)));
-        backed = λ number t lines early apart was. was;
+        ((h : Shelf) (shown : Shown v held h) (stands : StageStands m.stage v shown.ledger s m) → RollsOn shown.ledger.base (comes h shown stands).ledger.base) →
+        ((h g : Shelf) (start : Lines) → Related h g start → R h g) → DoesOn s there R v held w behind
+    does-any flight rolls as-asked = record {
+      does = record {
+        mine = ap (λ x. bare (stand_of x)) here ∙ arrives;
+        others = λ t apart. ap (λ x. bare (stand_of x)) (beside t apart);
+        steps = λ t apart. ap steps_of (beside t apart);
+        copier = λ number. copier-stays (stand_at held.members s) (Some n) there s number arrives;
+        each = λ h shown. record {
+          shelf = shelf h shown;
+          shown = shown-behind h shown (flight h shown);
+          related = as-asked h (shelf h shown) (sat h shown).start (record {
+            shown = shown;
+            stands = (sat h shown).stands;
+            seat = (sat h shown).is;
+            steps = shown.steps s ∙ ap steps_of was;
+            now_behind = refl;
+            seat_behind = seat-here (to h shown).ledger.base.lines (sat h shown).start h;
+            steps_behind = steps-here (to h shown).ledger.base.lines (sat h shown).start h;
+            space_behind = refl;
+            time_behind = refl;
+            faults_behind = refl;
+            promised_behind = refl;
+            others = record {
+              seat = λ t apart. seat-beside (to h shown).ledger.base.lines (sat h shown).start h t apart;
+              steps = λ t apart. steps-beside (to h shown).ledger.base.lines (sat h shown).start h t apart;
+              later = record { later = subst (λ (n : ℕ). n ≤ w.moment) (sym shown.lines.time) later; no_fewer = subst (λ (n : ℕ). n ≤ w.faults) (sym shown.lines.faults) no-fewer };
+            };
+          });
+          lasts = shelf-lasts h shown (flight h shown);
+          opens = all-open v w h shown.lines.time (leaves shown.tells) (shown-opens v held h shown) (shown-opens w behind (shelf h shown) (shown-behind h shown (flight h shown)));
+          backed = λ number t lines early apart was. was;
+        };
       };
+      rolls = λ h shown. rolls h shown (sat h shown).stands;
     }
 
     -- nothing becomes committed
     pub does-moves : ((h : Shelf) (shown : Shown v held h) (c : Commit) → (to h shown).ledger.commit ≡ Some c → IsInFlight (to h shown).ledger c.flight ((shelf h shown).seat c.member)) →
         ((h : Shelf) (shown : Shown v held h) (stands : StageStands m.stage v shown.ledger s m) → (comes h shown stands).ledger.base.lines ≡ shown.ledger.base.lines) →
+        ((h : Shelf) (shown : Shown v held h) (stands : StageStands m.stage v shown.ledger s m) → (comes h shown stands).ledger.base.journal ≡ shown.ledger.base.journal) →
         ((space : Space) → KeepsSpace space (becomes.space_of space)) →
-        ((h g : Shelf) (start : Lines) → Related h g start → Moves s (seat_with n.stage ws start) h g → R h g) → Does s there R (sight_of v held) (sight_of w behind)
-    does-moves flight same keeps-space as-asked = does-any flight (λ h g start related. as-asked h g start related (record {
+        ((h g : Shelf) (start : Lines) → Related h g start → Moves s (seat_with n.stage ws start) h g → R h g) → DoesOn s there R v held w behind
+    does-moves flight same journal keeps-space as-asked = does-any flight (λ h shown stands. rolls-same shown.ledger.base (comes h shown stands).ledger.base (same h shown stands) (journal h shown stands)) (λ h g start related. as-asked h g start related (record {
       now = related.now_behind ∙ same h related.shown related.stands ∙ sym related.shown.lines.now;
       mine = related.seat_behind;
       others = related.others;
@@ -292,16 +309,16 @@ module _ (v w : View) (held behind : StoreMemory) (s : ℕ) (m n : Member) (was 
     pub does-apart : ((h : Shelf) (shown : Shown v held h) → StageStands m.stage v shown.ledger s m → (c : Commit) → shown.ledger.commit ≡ Some c → c.member ≢ s) →
         ((h : Shelf) (shown : Shown v held h) (stands : StageStands m.stage v shown.ledger s m) → StillCommits shown.ledger (comes h shown stands).ledger) →
         ((space : Space) → KeepsSpace space (becomes.space_of space)) →
-        ((h g : Shelf) (start : Lines) → Related h g start → Moves s (seat_with n.stage ws start) h g → R h g) → Does s there R (sight_of v held) (sight_of w behind)
-    does-apart apart commits keeps-space as-asked = does-moves (apart-flight apart commits) (λ h shown stands. (commits h shown stands).lines) keeps-space as-asked
+        ((h g : Shelf) (start : Lines) → Related h g start → Moves s (seat_with n.stage ws start) h g → R h g) → DoesOn s there R v held w behind
+    does-apart apart commits keeps-space as-asked = does-moves (apart-flight apart commits) (λ h shown stands. (commits h shown stands).lines) (λ h shown stands. (commits h shown stands).journal) keeps-space as-asked
 
     -- its seat stays
     pub does-seated : ((start : Lines) → seat_with n.stage ws start ≡ seat_with m.stage before-ws start) → ((h : Shelf) (shown : Shown v held h) (stands : StageStands m.stage v shown.ledger s m) → StillCommits shown.ledger (comes h shown stands).ledger) →
         ((space : Space) → KeepsSpace space (becomes.space_of space)) →
-        ((h g : Shelf) (start : Lines) → Related h g start → Moves s (seat_with n.stage ws start) h g → R h g) → Does s there R (sight_of v held) (sight_of w behind)
+        ((h g : Shelf) (start : Lines) → Related h g start → Moves s (seat_with n.stage ws start) h g → R h g) → DoesOn s there R v held w behind
     does-seated seats commits keeps-space as-asked = does-moves
         (λ h shown c is. flight-stays h shown c (c.member == s) refl (shown.lines.flight c (sym (commits h shown (sat h shown).stands).commit ∙ is)))
-        (λ h shown stands. (commits h shown stands).lines) keeps-space as-asked
+        (λ h shown stands. (commits h shown stands).lines) (λ h shown stands. (commits h shown stands).journal) keeps-space as-asked
       where
         seat-stays : (h : Shelf) (shown : Shown v held h) (t : ℕ) (b : Bool) → (t == s) ≡ b → (shelf h shown).seat t ≡ h.seat t
         seat-stays h shown t true same =
@@ -323,16 +340,16 @@ module _ (v w : View) (held behind : StoreMemory) (s : ℕ) (m n : Member) (was 
     -- the session has none under way
     pub does-step : ((ws : List Write) (start : Lines) → in_flight (seat_with m.stage ws start) ≡ None) → ((h : Shelf) (shown : Shown v held h) (stands : StageStands m.stage v shown.ledger s m) → StillCommits shown.ledger (comes h shown stands).ledger) →
         ((space : Space) → KeepsSpace space (becomes.space_of space)) →
-        ((h g : Shelf) (start : Lines) → Related h g start → Moves s (seat_with n.stage ws start) h g → R h g) → Does s there R (sight_of v held) (sight_of w behind)
+        ((h g : Shelf) (start : Lines) → Related h g start → Moves s (seat_with n.stage ws start) h g → R h g) → DoesOn s there R v held w behind
     does-step still commits keeps-space as-asked = does-apart (never still) commits keeps-space as-asked
 
     -- its own commit may be under way, before and behind it
     pub does-flying : ((start : Lines) → in_flight (seat_with n.stage ws start) ≡ in_flight (seat_with m.stage before-ws start)) → ((h : Shelf) (shown : Shown v held h) (stands : StageStands m.stage v shown.ledger s m) → StillCommits shown.ledger (comes h shown stands).ledger) →
         ((space : Space) → KeepsSpace space (becomes.space_of space)) →
-        ((h g : Shelf) (start : Lines) → Related h g start → Moves s (seat_with n.stage ws start) h g → R h g) → Does s there R (sight_of v held) (sight_of w behind)
+        ((h g : Shelf) (start : Lines) → Related h g start → Moves s (seat_with n.stage ws start) h g → R h g) → DoesOn s there R v held w behind
     does-flying flown commits keeps-space as-asked = does-moves
         (λ h shown c is. flight-stays h shown c (c.member == s) refl (shown.lines.flight c (sym (commits h shown (sat h shown).stands).commit ∙ is)))
-        (λ h shown stands. (commits h shown stands).lines) keeps-space as-asked
+        (λ h shown stands. (commits h shown stands).lines) (λ h shown stands. (commits h shown stands).journal) keeps-space as-asked
       where
         flies-still : (h : Shelf) (shown : Shown v held h) (t : ℕ) (b : Bool) → (t == s) ≡ b → in_flight ((shelf h shown).seat t) ≡ in_flight (h.seat t)
         flies-still h shown t true same =

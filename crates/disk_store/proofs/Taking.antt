@@ -7,7 +7,6 @@ use Rattle.rdb_page.specs.Page.{IsOwner}
 use Rattle.rdb_outside.specs.Disk.{View}
 use Rattle.line_store.specs.Shelves.{Shelf, Space}
 use Rattle.line_store.specs.Rooms.{Takes, IsTaken}
-use Rattle.line_store.specs.Sights.{Does, Stays}
 use Rattle.member_rooms.specs.page_table.Pages.{Pages}
 use Rattle.member_rooms.specs.page_table.Scans.{IsNew}
 use Rattle.member_rooms.specs.committed_tables.Tables.{WereUsed}
@@ -17,20 +16,23 @@ use Rattle.member_rooms.proofs.of_store_shows.Taken.{is_taken, page_is_taken}
 use Rattle.disk_store.specs.declared.held.Tables.{Tables}
 use Rattle.disk_store.specs.Memory.{StoreMemory, with_tables}
 use Rattle.disk_store.specs.Seats.{stand_at}
-use Rattle.disk_store.specs.Shown.{pages_of, TablesStand, HaveStarts, Shown, sight_of}
+use Rattle.disk_store.specs.Shown.{DoesOn, StaysOn, pages_of, TablesStand, HaveStarts, Shown}
 use Rattle.disk_store.specs.Taken.{TakesIn}
 use Rattle.disk_store.proofs.EverUsed.{takes-still}
 use Rattle.disk_store.proofs.NoBackups.{copier-stays}
 use Rattle.disk_store.proofs.Unused.{unused-still}
 
 -- nothing changes
-pub stays : (v : View) (held : StoreMemory) (s : ℕ) → Stays s (sight_of v held) (sight_of v held)
+pub stays : (v : View) (held : StoreMemory) (s : ℕ) → StaysOn s v held v held
 stays v held s = record {
-  mine = refl;
-  others = λ t apart. refl;
-  steps = λ t apart. refl;
-  copier = λ number. copier-stays (stand_at held.members s) (slice_get held.members s) (stand_at held.members s) s number refl;
-  each = λ h shown. record { shelf = h; shown = shown; related = refl; lasts = record { since = λ t lines early is. inl is }; opens = λ t early was. was; backed = λ number t lines early apart was. was };
+  does = record {
+    mine = refl;
+    others = λ t apart. refl;
+    steps = λ t apart. refl;
+    copier = λ number. copier-stays (stand_at held.members s) (slice_get held.members s) (stand_at held.members s) s number refl;
+    each = λ h shown. record { shelf = h; shown = shown; related = refl; lasts = record { since = λ t lines early is. inl is }; opens = λ t early was. was; backed = λ number t lines early apart was. was };
+  };
+  rolls = λ h shown base last was. was;
 }
 
 module _ (v : View) (held : StoreMemory) (s file class : ℕ) (key : Dbkey) (owner : IsOwner file key.area) where
@@ -39,28 +41,31 @@ module _ (v : View) (held : StoreMemory) (s file class : ℕ) (key : Dbkey) (own
   was-taken none h shown = record { file = file; lies = owner; taken = is_taken (pages_of held.tables) h.space shown.space.pages file key.page none }
 
   -- so taking it once more changes nothing
-  pub takes-again : (IsNew (pages_of held.tables file) key.page → ⊥) → Does s (stand_at held.members s) (Takes key) (sight_of v held) (sight_of v held)
+  pub takes-again : (IsNew (pages_of held.tables file) key.page → ⊥) → DoesOn s (stand_at held.members s) (Takes key) v held v held
   takes-again none = record {
-    mine = refl;
-    others = λ t apart. refl;
-    steps = λ t apart. refl;
-    copier = λ number. copier-stays (stand_at held.members s) (slice_get held.members s) (stand_at held.members s) s number refl;
-    each = λ h shown. record {
-      shelf = h;
-      shown = shown;
-      related = record {
-        file = file;
-        lies = owner;
-        page = record { here = is_taken (pages_of held.tables) h.space shown.space.pages file key.page none; others = λ f p apart. refl; limits = refl; snaps = refl; slots = refl };
-        now = refl;
-        seat = λ t. refl;
-        steps = λ t. refl;
-        later = record { later = omega arith; no_fewer = omega arith };
+    does = record {
+      mine = refl;
+      others = λ t apart. refl;
+      steps = λ t apart. refl;
+      copier = λ number. copier-stays (stand_at held.members s) (slice_get held.members s) (stand_at held.members s) s number refl;
+      each = λ h shown. record {
+        shelf = h;
+        shown = shown;
+        related = record {
+          file = file;
+          lies = owner;
+          page = record { here = is_taken (pages_of held.tables) h.space shown.space.pages file key.page none; others = λ f p apart. refl; limits = refl; snaps = refl; slots = refl };
+          now = refl;
+          seat = λ t. refl;
+          steps = λ t. refl;
+          later = record { later = omega arith; no_fewer = omega arith };
+        };
+        lasts = record { since = λ t lines early is. inl is };
+        opens = λ t early was. was;
+        backed = λ number t lines early apart was. was;
       };
-      lasts = record { since = λ t lines early is. inl is };
-      opens = λ t early was. was;
-      backed = λ number t lines early apart was. was;
     };
+    rolls = λ h shown base last was. was;
   }
 
   module _ (kept : Tables) (new : IsNew (pages_of held.tables file) key.page) (takes : TakesIn file key.page key.area class held.tables kept) (stand : (h : Shelf) (shown : Shown v held h) → TablesStand v shown.ledger kept) where
@@ -93,7 +98,7 @@ module _ (v : View) (held : StoreMemory) (s file class : ℕ) (key : Dbkey) (own
             (used_behind_page (pages_of held.tables file) (pages_of kept file) file start key.page key.area class (subst (λ (n : ℕ). WereUsed (pages_of held.tables n) n start) e was) new.free takes.here)
         by false apart = subst (λ (ps : Pages). WereUsed ps f start) (sym (takes.others f (eqb-false f file apart))) was
 
-    shown-behind : (h : Shelf) → Shown v held h → Shown v (with_tables kept held) (behind h)
+    abbrev shown-behind : (h : Shelf) → Shown v held h → Shown v (with_tables kept held) (behind h)
     shown-behind h shown = record {
       tells = shown.tells;
       ledger = shown.ledger;
@@ -120,26 +125,29 @@ module _ (v : View) (held : StoreMemory) (s file class : ℕ) (key : Dbkey) (own
       space = record { limits = shown.space.limits; pages = has-pages h shown; snaps = shown.space.snaps; slots = shown.space.slots };
     }
 
-    pub takes-page : Does s (stand_at held.members s) (Takes key) (sight_of v held) (sight_of v (with_tables kept held))
+    pub takes-page : DoesOn s (stand_at held.members s) (Takes key) v held v (with_tables kept held)
     takes-page = record {
-      mine = refl;
-      others = λ t apart. refl;
-      steps = λ t apart. refl;
-      copier = λ number. copier-stays (stand_at held.members s) (slice_get held.members s) (stand_at held.members s) s number refl;
-      each = λ h shown. record {
-        shelf = behind h;
-        shown = shown-behind h shown;
-        related = record {
-          file = file;
-          lies = owner;
-          page = page_is_taken (pages_of held.tables) (pages_of kept) h.space (space-behind h) file class key shown.space.pages (has-pages h shown) owner new.first takes.here takes.others refl refl refl;
-          now = refl;
-          seat = λ t. refl;
-          steps = λ t. refl;
-          later = record { later = omega arith; no_fewer = omega arith };
+      does = record {
+        mine = refl;
+        others = λ t apart. refl;
+        steps = λ t apart. refl;
+        copier = λ number. copier-stays (stand_at held.members s) (slice_get held.members s) (stand_at held.members s) s number refl;
+        each = λ h shown. record {
+          shelf = behind h;
+          shown = shown-behind h shown;
+          related = record {
+            file = file;
+            lies = owner;
+            page = page_is_taken (pages_of held.tables) (pages_of kept) h.space (space-behind h) file class key shown.space.pages (has-pages h shown) owner new.first takes.here takes.others refl refl refl;
+            now = refl;
+            seat = λ t. refl;
+            steps = λ t. refl;
+            later = record { later = omega arith; no_fewer = omega arith };
+          };
+          lasts = record { since = λ t lines early is. inl is };
+          opens = λ t early was. was;
+          backed = λ number t lines early apart was. was;
         };
-        lasts = record { since = λ t lines early is. inl is };
-        opens = λ t early was. was;
-        backed = λ number t lines early apart was. was;
       };
+      rolls = λ h shown base last was. was;
     }

@@ -14,10 +14,12 @@ use Rattle.area_files.specs.Areas.{IsDataPage}
 use Rattle.line_view.specs.Knowledge.{Lines, IsInOrder, line_in}
 use Rattle.line_store.specs.Seats.{Seat, outside}
 use Rattle.line_store.specs.Shelves.{Space, Shelf}
-use Rattle.line_store.specs.Sights.{Sight}
+use Rattle.line_store.specs.Sights.{Sight, IsSame, Does}
 use Rattle.snapshot_file.specs.Slots.{left_in}
 use Rattle.line_versions.specs.Course.{Course, Reading}
 use Rattle.stable_lines.specs.Slots.{IsAreaFile}
+use Rattle.stable_lines.specs.Progress.{Progress}
+use Rattle.stable_lines.specs.Rolling.{IsBehind}
 use Rattle.line_opening.specs.Passing.{IsNext}
 use Rattle.line_opening.specs.declared.groups.NextGroup.{NextGroup}
 use Rattle.line_moves.specs.declared.places.Place.{Place}
@@ -191,3 +193,22 @@ sight_of v held = record {
   copier = λ number. None;
   backed = λ number t lines. ⊥;
 }
+
+-- ---- calls
+
+-- Rolled forward over the journal, a backup of these lines gives what is committed, where groups are numbered from 1 on.
+abbrev pub RollsTo : Lines → ℕ → Progress → Type 0
+RollsTo base last now = 1 ≤ now.journal.first → IsBehind base last now
+
+-- and goes on giving it
+abbrev pub RollsOn : Progress → Progress → Type 0
+RollsOn old new = (base : Lines) (last : ℕ) → RollsTo base last old → RollsTo base last new
+
+-- What a call of session s does on disk and in memory, with each backup still behind what is committed.
+pub record DoesOn (s : ℕ) (there : Seat) (R : Shelf → Shelf → Type 0) (v : View) (held : StoreMemory) (w : View) (behind : StoreMemory) : Type 0 where
+  pub does : Does s there R (sight_of v held) (sight_of w behind)
+  pub rolls : (h : Shelf) (shown : Shown v held h) → RollsOn shown.ledger.base (does.each h shown).shown.ledger.base
+
+-- nothing changes
+abbrev pub StaysOn : ℕ → View → StoreMemory → View → StoreMemory → Type 0
+StaysOn s v held w behind = DoesOn s (stand_at held.members s) IsSame v held w behind

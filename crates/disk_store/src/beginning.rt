@@ -4,7 +4,7 @@ ghost use Rattle.rdb_types.specs.declared.file.FileId.{FileId as File};
 ghost use Rattle.root_file.specs.Root.{IsAllowed};
 ghost use Rattle.line_store.specs.Seats.{IsMember};
 ghost use Rattle.line_store.specs.Shelves.{Shelf};
-ghost use Rattle.line_store.specs.Sights.{Does, Steps, stepped_to, MayAnswer, IsLess};
+ghost use Rattle.line_store.specs.Sights.{Steps, stepped_to, MayAnswer, IsLess};
 ghost use Rattle.line_store.specs.declared.answers.Stepped.TheVariants as stepped;
 ghost use Rattle.disk_store.specs.declared.member.Ceiling.TheVariants.{Asking, Raised};
 ghost use Rattle.disk_store.specs.declared.member.Member.{Member as Sits};
@@ -13,7 +13,7 @@ ghost use Rattle.disk_store.specs.Memory.{with_number};
 ghost use Rattle.disk_store.specs.Numbers.{kept_at, kept_in, with_settled, with_raised};
 ghost use Rattle.disk_store.specs.OwnFiles.{WritesOwn};
 ghost use Rattle.disk_store.specs.Seats.{stand_at, IsAtStage};
-ghost use Rattle.disk_store.specs.Shown.{Shown, sight_of};
+ghost use Rattle.disk_store.specs.Shown.{DoesOn, Shown, sight_of};
 
 use crate::{Ceiling, Held, Member, MemberStage};
 use ledger_versions::{raise_ceiling, settle};
@@ -106,8 +106,8 @@ pub fn ask<D: Disk>(disk: &mut D, held: &mut Held, s: Session) -> Result<Stepped
     requires member { IsMember s.number }
     requires begins { IsAtStage held.old.members s.number (stage.Beginning Asking) }
     ensures answers { MayAnswer (stand_at held.old.members s.number) result }
-    ensures comes { Does s.number (stepped_to (stand_at held.old.members s.number) result)
-        (Steps s.number result) (sight_of (D.view disk.old) held.old) (sight_of (D.view disk.new) held.new) }
+    ensures comes { DoesOn s.number (stepped_to (stand_at held.old.members s.number) result)
+        (Steps s.number result) (D.view disk.old) held.old (D.view disk.new) held.new }
     ensures less { result ≡ Ok stepped.More → IsLess s.number (sight_of (D.view disk.old) held.old) (sight_of (D.view disk.new) held.new) }
     ensures used_up { (file : File) (slot : ℕ) → IsErrOf result (Fault.Bad file slot) → 2 ^ 62 < held.old.numbers.written + 64 }
 
@@ -139,8 +139,8 @@ pub fn draw<D: Disk>(disk: &mut D, held: &mut Held, s: Session) -> Result<Steppe
     requires member { IsMember s.number }
     requires begins { IsAtStage held.old.members s.number (stage.Beginning Raised) }
     ensures answers { MayAnswer (stand_at held.old.members s.number) result }
-    ensures comes { Does s.number (stepped_to (stand_at held.old.members s.number) result)
-        (Steps s.number result) (sight_of (D.view disk.old) held.old) (sight_of (D.view disk.new) held.new) }
+    ensures comes { DoesOn s.number (stepped_to (stand_at held.old.members s.number) result)
+        (Steps s.number result) (D.view disk.old) held.old (D.view disk.new) held.new }
     ensures less { result ≡ Ok stepped.More → IsLess s.number (sight_of (D.view disk.old) held.old) (sight_of (D.view disk.new) held.new) }
 
     // The number that was kept is there.

@@ -3,14 +3,13 @@ ghost use Rattle.std.specs.Prelude.{◌≡◌, ◌≤◌, ◌<◌, ◌+◌, ◌^
 ghost use Rattle.line_store.specs.Seats.{IsMember, IsWriting, changing, is_written, lines_added};
 ghost use Rattle.line_store.specs.Shelves.{Shelf};
 ghost use Rattle.line_store.specs.Calls.{Changes, MayStopChange};
-ghost use Rattle.line_store.specs.Sights.{Does, Stays};
 ghost use Rattle.stable_lines.specs.Slots.{IsAreaFile};
 ghost use Rattle.member_rooms.specs.page_table.Pages.{IsEverUsed};
 ghost use Rattle.member_memory.specs.Memory.{writes_in};
 ghost use Rattle.disk_store.specs.declared.member.Member.{Member as Sits};
 ghost use Rattle.disk_store.specs.Changing.{AreFit, HasPlace, IsFreeFor, LaysOver, LaysWrites, Stops, StopsAt, all_of, one_for, size_of, stop_of, with_asides};
 ghost use Rattle.disk_store.specs.Seats.{stand_at};
-ghost use Rattle.disk_store.specs.Shown.{Shown, pages_of, sight_of};
+ghost use Rattle.disk_store.specs.Shown.{DoesOn, StaysOn, Shown, pages_of};
 ghost use Rattle.disk_store.specs.Sound.{HasSlotsFor, IsUsedIn};
 
 use crate::{Held, Member, MemberStage, Tables};
@@ -238,8 +237,8 @@ pub fn change<D: Disk>(
 ) -> Result<(), ChangeStop>
     requires member { IsMember s.number }
     requires seat { IsWriting (stand_at held.old.members s.number) }
-    ensures ok { OnOk result (Does s.number (changing []) (Changes s.number writes.now) (sight_of (D.view _disk.now) held.old) (sight_of (D.view _disk.now) held.new)) }
-    ensures err { OnErr result (Stays s.number (sight_of (D.view _disk.now) held.old) (sight_of (D.view _disk.now) held.new)) }
+    ensures ok { OnOk result (DoesOn s.number (changing []) (Changes s.number writes.now) (D.view _disk.now) held.old (D.view _disk.now) held.new) }
+    ensures err { OnErr result (StaysOn s.number (D.view _disk.now) held.old (D.view _disk.now) held.new) }
     ensures cause { IfErr result (λ stop. (h : Shelf) → Shown (D.view _disk.now) held.old h → MayStopChange h s.number writes.now stop) }
     ensures tables { held.new.tables ≡ held.old.tables }
 {

@@ -6,9 +6,9 @@ ghost use Rattle.line_view.specs.Held.{knows};
 ghost use Rattle.line_store.specs.declared.answers.Progress.TheVariants.{Done, More};
 ghost use Rattle.line_store.specs.Seats.{IsMember, IsAtRest};
 ghost use Rattle.line_store.specs.Shelves.{Shelf, seen_by};
-ghost use Rattle.line_store.specs.Sights.{Does, IsLess, LearnsArea, LearnsLine, LearnsSome, Reads};
+ghost use Rattle.line_store.specs.Sights.{IsLess, LearnsArea, LearnsLine, LearnsSome, Reads};
 ghost use Rattle.disk_store.specs.Seats.{stand_at};
-ghost use Rattle.disk_store.specs.Shown.{sight_of};
+ghost use Rattle.disk_store.specs.Shown.{DoesOn, sight_of};
 
 use crate::Held;
 use crate::seen::{area_seen, line_seen};
@@ -33,8 +33,8 @@ pub fn learn_line<D: Disk>(
     ensures knows { (h : Shelf) → (sight_of (D.view disk.old) held.now).shows h → IsInOrder (seen_by s.number h)
         → AgreesWith (knows known.old) (seen_by s.number h)
         → AgreesWith (knows known.new) (seen_by s.number h) }
-    ensures read { Does s.number (stand_at held.now.members s.number) (Reads s.number result)
-        (sight_of (D.view disk.old) held.now) (sight_of (D.view disk.new) held.now) }
+    ensures read { DoesOn s.number (stand_at held.now.members s.number) (Reads s.number result)
+        (D.view disk.old) held.now (D.view disk.new) held.now }
     ensures less { result ≡ Ok More → IsLess s.number (sight_of (D.view disk.old) held.now) (sight_of (D.view disk.new) held.now) }
 
     // Nothing is written.
@@ -65,8 +65,8 @@ pub fn learn_area<D: Disk>(
     ensures knows { (h : Shelf) → (sight_of (D.view disk.old) held.now).shows h → IsInOrder (seen_by s.number h)
         → AgreesWith (knows known.old) (seen_by s.number h)
         → AgreesWith (knows known.new) (seen_by s.number h) }
-    ensures read { Does s.number (stand_at held.now.members s.number) (Reads s.number result)
-        (sight_of (D.view disk.old) held.now) (sight_of (D.view disk.new) held.now) }
+    ensures read { DoesOn s.number (stand_at held.now.members s.number) (Reads s.number result)
+        (D.view disk.old) held.now (D.view disk.new) held.now }
     ensures less { result ≡ Ok More → IsLess s.number (sight_of (D.view disk.old) held.now) (sight_of (D.view disk.new) held.now) }
 
     // Nothing is written.

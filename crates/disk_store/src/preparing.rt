@@ -3,12 +3,12 @@ ghost use Rattle.std.specs.Prelude.{◌≡◌, ◌<◌, ◌≤◌, ◌+◌, ◌�
 ghost use Rattle.line_store.specs.Seats.{IsMember, IsWriting, prepared, group_of, lines_written};
 ghost use Rattle.line_store.specs.Shelves.{Shelf};
 ghost use Rattle.line_store.specs.Calls.{MayStopCommit};
-ghost use Rattle.line_store.specs.Sights.{Does, Stays, Prepares};
+ghost use Rattle.line_store.specs.Sights.{Prepares};
 ghost use Rattle.member_memory.specs.Memory.{writes_in};
 ghost use Rattle.disk_store.specs.declared.member.Member.{Member as Sits};
 ghost use Rattle.disk_store.specs.Preparing.{aside_of, aside_beside};
 ghost use Rattle.disk_store.specs.Seats.{stand_at};
-ghost use Rattle.disk_store.specs.Shown.{Shown, sight_of};
+ghost use Rattle.disk_store.specs.Shown.{DoesOn, StaysOn, Shown};
 
 use crate::{Held, Member, MemberStage};
 use line_store::CommitStop;
@@ -69,8 +69,8 @@ impl Held {
 pub fn prepare<D: Disk>(_disk: &D, held: &mut Held, s: Session) -> Result<(), CommitStop>
     requires member { IsMember s.number }
     requires writing { IsWriting (stand_at held.old.members s.number) }
-    ensures ok { OnOk result (Does s.number (prepared []) (Prepares s.number) (sight_of (D.view _disk.now) held.old) (sight_of (D.view _disk.now) held.new)) }
-    ensures err { OnErr result (Stays s.number (sight_of (D.view _disk.now) held.old) (sight_of (D.view _disk.now) held.new)) }
+    ensures ok { OnOk result (DoesOn s.number (prepared []) (Prepares s.number) (D.view _disk.now) held.old (D.view _disk.now) held.new) }
+    ensures err { OnErr result (StaysOn s.number (D.view _disk.now) held.old (D.view _disk.now) held.new) }
     ensures cause { IfErr result (λ stop. (h : Shelf) → Shown (D.view _disk.now) held.old h → MayStopCommit h s.number stop) }
     ensures tables { held.new.tables ≡ held.old.tables }
 {

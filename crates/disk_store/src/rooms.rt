@@ -4,7 +4,6 @@ ghost use Rattle.rdb_page.specs.Page.{IsOwner, IsClass};
 ghost use Rattle.line_store.specs.Seats.{IsMember, IsWriting};
 ghost use Rattle.line_store.specs.Shelves.{Shelf};
 ghost use Rattle.line_store.specs.Rooms.{IsRoom, IsFull, IsTaken, Takes};
-ghost use Rattle.line_store.specs.Sights.{Does, Stays};
 ghost use Rattle.member_rooms.specs.page_table.Scans.{IsNew};
 ghost use Rattle.stable_lines.specs.Slots.{IsAreaFile};
 ghost use Rattle.member_rooms.specs.Classes.{IsClassOf, HasNoOwned};
@@ -13,7 +12,7 @@ ghost use Rattle.disk_store.specs.declared.held.Tables.{Tables as Kept};
 ghost use Rattle.disk_store.specs.Grown.{Grow};
 ghost use Rattle.disk_store.specs.Memory.{with_tables};
 ghost use Rattle.disk_store.specs.Seats.{stand_at};
-ghost use Rattle.disk_store.specs.Shown.{pages_of, Shown, sight_of};
+ghost use Rattle.disk_store.specs.Shown.{DoesOn, StaysOn, pages_of, Shown};
 ghost use Rattle.disk_store.specs.Taken.{TakesIn};
 
 use crate::Held;
@@ -124,8 +123,8 @@ pub fn take_room<D: Disk>(
 ) -> Result<bool, NoMemory>
     requires area { (file : ℕ) × IsOwner file key.area }
     requires class { IsClass class }
-    ensures taken { result ≡ Ok true → Does _s.number (stand_at held.old.members _s.number) (Takes key) (sight_of (D.view _disk.now) held.old) (sight_of (D.view _disk.now) held.new) }
-    ensures refused { (result ≡ Ok true → ⊥) → Stays _s.number (sight_of (D.view _disk.now) held.old) (sight_of (D.view _disk.now) held.new) }
+    ensures taken { result ≡ Ok true → DoesOn _s.number (stand_at held.old.members _s.number) (Takes key) (D.view _disk.now) held.old (D.view _disk.now) held.new }
+    ensures refused { (result ≡ Ok true → ⊥) → StaysOn _s.number (D.view _disk.now) held.old (D.view _disk.now) held.new }
     ensures other { result ≡ Ok false → (h : Shelf) → Shown (D.view _disk.now) held.old h → IsTaken key h.space }
 
     // No session is another than it was, whoever takes the page.

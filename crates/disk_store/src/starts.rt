@@ -3,14 +3,14 @@ ghost use Rattle.std.specs.Prelude.{◌≡◌, [], true, Some, map, slice_get, I
 ghost use Rattle.line_versions.specs.Versions.{Start};
 ghost use Rattle.line_store.specs.Seats.{IsMember, IsReader, outside, reading};
 ghost use Rattle.line_store.specs.Calls.{Moves};
-ghost use Rattle.line_store.specs.Sights.{Does, Stays, BeginsReading};
+ghost use Rattle.line_store.specs.Sights.{BeginsReading};
 ghost use Rattle.disk_store.specs.declared.member.Member.{Member as Sits};
 ghost use Rattle.disk_store.specs.declared.member.MemberStage.TheVariants.{Outside};
 ghost use Rattle.disk_store.specs.Commits.{is_free};
 ghost use Rattle.disk_store.specs.Memory.{with_member};
 ghost use Rattle.disk_store.specs.Readers.{goes_at, keeping, numbers_going};
 ghost use Rattle.disk_store.specs.Seats.{IsAtStage, stand_at};
-ghost use Rattle.disk_store.specs.Shown.{sight_of};
+ghost use Rattle.disk_store.specs.Shown.{DoesOn, StaysOn};
 
 use crate::{Held, Member, MemberStage, Recovery};
 use member_rooms::CommitTurn;
@@ -79,8 +79,8 @@ impl Held {
 pub fn begin_reading<D: Disk>(_disk: &D, held: &mut Held, s: Session) -> Result<(), NoMemory>
     requires member { IsMember s.number }
     requires outside { stand_at held.old.members s.number ≡ outside }
-    ensures ok { OnOk result (Does s.number (reading []) (BeginsReading s.number) (sight_of (D.view _disk.now) held.old) (sight_of (D.view _disk.now) held.new)) }
-    ensures err { OnErr result (Stays s.number (sight_of (D.view _disk.now) held.old) (sight_of (D.view _disk.now) held.new)) }
+    ensures ok { OnOk result (DoesOn s.number (reading []) (BeginsReading s.number) (D.view _disk.now) held.old (D.view _disk.now) held.new) }
+    ensures err { OnErr result (StaysOn s.number (D.view _disk.now) held.old (D.view _disk.now) held.new) }
     ensures tables { held.new.tables ≡ held.old.tables }
 {
     let Ok(active) = going(held.alloc, &held.members) else {
@@ -97,7 +97,7 @@ pub fn begin_reading<D: Disk>(_disk: &D, held: &mut Held, s: Session) -> Result<
 pub fn leave_reading<D: Disk>(_disk: &D, held: &mut Held, s: Session)
     requires member { IsMember s.number }
     requires reader { IsReader (stand_at held.old.members s.number) }
-    ensures comes { Does s.number outside (Moves s.number outside) (sight_of (D.view _disk.now) held.old) (sight_of (D.view _disk.now) held.new) }
+    ensures comes { DoesOn s.number outside (Moves s.number outside) (D.view _disk.now) held.old (D.view _disk.now) held.new }
     ensures outside { IsAtStage held.new.members s.number Outside }
     ensures tables { held.new.tables ≡ held.old.tables }
 {

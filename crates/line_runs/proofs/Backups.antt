@@ -29,6 +29,7 @@ whole-backup v number since lines h image left =
       is = subst (λ (n : ℕ). IsBackup (slots_of image (file_of n)) (head_of h.copying.backup copied.copies) copied.copies) h.number_is (whole h.classes lines h.copying.backup image copied h.pages h.limited h.ordered);
       has = copied.has;
       class = copied.class;
+      rolls = h.rolls image left;
     }
 
 module _ (M : Model) (o : Opening) (v : View) (events : List Event) (sight : Sight) (back : IsBack sight v) (has : HasImages M o sight events) where

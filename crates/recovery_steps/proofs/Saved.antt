@@ -12,7 +12,6 @@ use Rattle.line_view.specs.Writes.{laid_all}
 use Rattle.line_store.specs.Seats.{outside}
 use Rattle.line_store.specs.Shelves.{Shelf}
 use Rattle.line_store.specs.Calls.{IsSaved, TakesGroup}
-use Rattle.line_store.specs.Sights.{Does}
 use Rattle.stable_lines.specs.Slots.{line_at}
 use Rattle.stable_lines.specs.Journal.{commit_of, next_slot, write_of}
 use Rattle.stable_lines.specs.Progress.{Flight, Progress, lines_with}
@@ -36,7 +35,7 @@ use Rattle.store_endings.specs.disk_store.Landing.{PutsAll, landed_with}
 use Rattle.store_endings.specs.disk_store.Memory.{StoreMemory}
 use Rattle.store_endings.specs.disk_store.Seats.{seat_with}
 use Rattle.store_endings.specs.disk_store.Standing.{IsJudged, StageStands}
-use Rattle.store_endings.specs.disk_store.Shown.{Shown, sight_of}
+use Rattle.store_endings.specs.disk_store.Shown.{DoesOn, Shown}
 use Rattle.store_endings.specs.disk_store.Sound.{IsSound}
 use Rattle.store_endings.proofs.of_disk_store.Moving.{itself}
 use Rattle.store_endings.proofs.of_disk_store.Kept.{kept-stays}
@@ -46,7 +45,7 @@ use Rattle.store_endings.proofs.of_disk_store.Stepping.{ComesTo, does-any}
 use Rattle.store_endings.proofs.of_disk_store.Passing.{Passes, header-read, passes-reads, reads-leave, reads-ceiling, tables-pass, slots-pass}
 use Rattle.store_endings.proofs.of_disk_store.LinesPut.{all-used}
 use Rattle.store_endings.proofs.of_disk_store.Unused.{unused-behind}
-use Rattle.store_endings.proofs.of_disk_store.Landed.{slot-behind, number-behind, tables-landed, becomes-landed, takes-landed}
+use Rattle.store_endings.proofs.of_disk_store.Landed.{slot-behind, number-behind, rolls-landed, tables-landed, becomes-landed, takes-landed}
 use Rattle.store_endings.proofs.of_disk_store.Judged.{judged-at, its, as-held, slot-is}
 
 module _ (v w : View) (held : StoreMemory) (s : ℕ) (m : Member) (was : slice_get held.members s ≡ Some m) (at : m.stage ≡ stage.Dead true recovery.Judging) (only : OnlyReads v w)
@@ -140,11 +139,12 @@ module _ (v w : View) (held : StoreMemory) (s : ℕ) (m : Member) (was : slice_g
     }
 
   -- it is committed since this moment
-  pub does-save : (moment : ℕ) → moment ≡ w.moment → Does s outside (λ h g. IsSaved s moment h g) (sight_of v held) (sight_of w behind)
+  pub does-save : (moment : ℕ) → moment ≡ w.moment → DoesOn s outside (λ h g. IsSaved s moment h g) v held w behind
   does-save moment now =
       does-any v w held behind s m n was (becomes-landed held s m stage.Outside kept puts) (λ e. cc) only.told (reads-leave v w only) saved-now
       only.later only.no_fewer outside (λ h g. IsSaved s moment h g) refl
       (λ h shown d is. absurd (none-some d is))
+      (λ h shown stands. rolls-landed v shown.ledger (c h shown stands) shown.facts (j h shown stands).commit.under_way (j h shown stands).flying)
       (λ h g start related. record {
         writes = ws;
         was = related.seat ∙ ap (λ st. seat_with st ws start) at;

@@ -5,7 +5,7 @@ ghost use Rattle.rdb_outside.specs.Disk.{OnlyReads};
 ghost use Rattle.journal_scan.specs.Standing.{what_stands};
 ghost use Rattle.new_database.specs.Maker.{aij_file};
 ghost use Rattle.line_store.specs.Seats.{IsMember};
-ghost use Rattle.line_store.specs.Sights.{Does, Steps, stepped_to, MayAnswer, IsLess};
+ghost use Rattle.line_store.specs.Sights.{Steps, stepped_to, MayAnswer, IsLess};
 ghost use Rattle.line_store.specs.declared.answers.Stepped.TheVariants as stepped;
 ghost use Rattle.stable_lines.specs.Journal.{commit_of};
 ghost use Rattle.stable_lines.specs.Progress.{Flight, Progress};
@@ -16,7 +16,7 @@ ghost use Rattle.store_endings.specs.disk_store.declared.member.Recovery.TheVari
 ghost use Rattle.store_endings.specs.disk_store.Grown.{Grow};
 ghost use Rattle.store_endings.specs.disk_store.OwnFiles.{WritesOwn};
 ghost use Rattle.store_endings.specs.disk_store.Seats.{stand_at, IsAtStage};
-ghost use Rattle.store_endings.specs.disk_store.Shown.{sight_of};
+ghost use Rattle.store_endings.specs.disk_store.Shown.{DoesOn, sight_of};
 
 use disk_seats::settle;
 use line_seat::GroupPlace;
@@ -63,8 +63,8 @@ pub fn judge<D: Disk>(
     requires member { IsMember s.number }
     requires died { IsAtStage held.old.members s.number (stage.Dead commits recovery.Judging) }
     ensures answers { MayAnswer (stand_at held.old.members s.number) result }
-    ensures comes { Does s.number (stepped_to (stand_at held.old.members s.number) result)
-        (Steps s.number result) (sight_of (D.view disk.old) held.old) (sight_of (D.view disk.new) held.new) }
+    ensures comes { DoesOn s.number (stepped_to (stand_at held.old.members s.number) result)
+        (Steps s.number result) (D.view disk.old) held.old (D.view disk.new) held.new }
     ensures less { result ≡ Ok stepped.More → IsLess s.number (sight_of (D.view disk.old) held.old) (sight_of (D.view disk.new) held.new) }
 
     // One slot at most is written, of the database's own files.

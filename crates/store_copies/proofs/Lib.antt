@@ -7,6 +7,8 @@ pub mod Lifted
 pub mod Working
 pub mod CopySteps
 mod Committed
+mod OneBackup
+mod Rolled
 mod Few
 mod Fitted
 pub mod Begins

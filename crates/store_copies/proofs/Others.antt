@@ -14,7 +14,8 @@ use Rattle.partial_backup.specs.Left.{HasCopied}
 use Rattle.partial_backup.proofs.Standing.{untouched}
 use Rattle.disk_store.specs.declared.held.Tables.{Tables}
 use Rattle.disk_store.specs.Grown.{Grow}
-use Rattle.store_copies.specs.Shown.{GoesOn, IsBackedUp, IsFit}
+use Rattle.stable_lines.specs.Rolling.{Rolls}
+use Rattle.store_copies.specs.Shown.{GoesOn, IsBackedUp, IsFit, NumbersFromOne}
 use Rattle.store_copies.proofs.Keeping.{stay}
 
 -- an image of pending contents has a backup that has ended
@@ -53,9 +54,10 @@ goes-on-still v w old new c lines kept grow goes = record {
   fit = fit-grown old new c.backup.limits goes.classes lines grow goes.fit;
 }
 
--- a backup stays whole
-pub backed-still : (v w : View) (number t : ℕ) (lines : Lines) → t ≤ v.moment → LeavesOnly v w (λ image. IsPending v image ⊎ IsPending w image) → IsUntouched (file_of number) v w → IsBackedUp v number t lines → IsBackedUp w number t lines
-backed-still v w number t lines early leaves kept was = record {
+-- A backup stays whole, and rolls forward where it does so over what a crash may leave before and behind the call.
+pub backed-still : (v w : View) (number t : ℕ) (lines : Lines) → t ≤ v.moment → LeavesOnly v w (λ image. IsPending v image ⊎ IsPending w image) → IsUntouched (file_of number) v w → (was : IsBackedUp v number t lines)
+    → ((image : Image) → IsPending v image ⊎ IsPending w image → NumbersFromOne image → Rolls lines was.copying.backup.last_group image) → IsBackedUp w number t lines
+backed-still v w number t lines early leaves kept was rolls = record {
   former = was.former;
   classes = was.classes;
   copying = was.copying;
@@ -65,6 +67,7 @@ backed-still v w number t lines early leaves kept was = record {
   left = λ image left. ⊎_elim (was.left image) (λ pending. ⊎_elim
       (ended-pending was.former was.classes lines v was.copying was.ended was.is image)
       (ended-pending was.former was.classes lines w was.copying was.ended behind image) pending) (leaves.before t image early left);
+  rolls = λ image left from. ⊎_elim (λ old. was.rolls image old from) (λ pending. rolls image pending from) (leaves.before t image early left);
   ordered = was.ordered;
   limited = was.limited;
   pages = was.pages;

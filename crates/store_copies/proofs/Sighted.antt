@@ -16,7 +16,7 @@ use Rattle.disk_store.specs.Memory.{StoreMemory}
 use Rattle.disk_store.specs.Seats.{stand_at, steps_at}
 use Rattle.disk_store.specs.Shown.{Shown, sight_of}
 use Rattle.disk_store.proofs.Agreeing.{agreeing, opening, standing}
-use Rattle.store_copies.specs.Memory.{CopiesMemory, copied_by}
+use Rattle.store_copies.specs.Memory.{CopiesMemory, copied_by, is_done}
 use Rattle.store_copies.specs.Shown.{copying_at, seated, steps_with, with_copies, is_reader, AreReaders, ShownWith, copied_sight}
 use Rattle.store_copies.proofs.Seated.{bare-seated, stand-with}
 
@@ -166,10 +166,12 @@ with-nothing copied none h = λ i. record h { seat = λ s. seated (none s i) (h.
 pub shown-plain : (v : View) (held : StoreMemory) (copies : CopiesMemory) → ((s : ℕ) → copied_by copies s ≡ None) → (h : Shelf) → ShownWith v held copies h → Shown v held h
 shown-plain v held copies none h shown = subst (λ (x : Shelf). Shown v held x) (sym (shown.is ∙ with-nothing (copied_by copies) none shown.plain)) shown.shown
 
-pub plain-shown : (v : View) (held : StoreMemory) (copies : CopiesMemory) → ((s : ℕ) → copied_by copies s ≡ None) → (h : Shelf) → Shown v held h → ShownWith v held copies h
-plain-shown v held copies none h shown = record {
+pub plain-shown : (v : View) (held : StoreMemory) (copies : CopiesMemory) → ((s : ℕ) → copied_by copies s ≡ None) → ((n : ℕ) → is_done copies n ≡ false) → (h : Shelf) → Shown v held h → ShownWith v held copies h
+plain-shown v held copies none not-done h shown = record {
   plain = h;
   shown = shown;
   is = sym (with-nothing (copied_by copies) none h);
   goes_on = λ s c start own last seat. absurd (none-some c (sym (none s) ∙ own));
+  behind = λ s c start own last seat. absurd (none-some c (sym (none s) ∙ own));
+  rolling = λ n done. let bad : false ≡ true = sym (not-done n) ∙ done in absurd (cc);
 }

@@ -3,9 +3,13 @@ use Rattle.std.specs.Prelude.{ℕ, ◌+◌, ◌<◌, ◌≤◌, ◌≡◌, ◌^�
 use Rattle.rdb_types.specs.declared.keys.Dbkey.{Dbkey}
 use Rattle.rdb_types.specs.declared.keys.Limits.{Limits}
 use Rattle.rdb_outside.specs.Disk.{View, Image}
+use Rattle.line_moves.specs.new_database.aij_journal.Header.{IsHeader}
+use Rattle.line_moves.specs.new_database.Maker.{aij_file}
 use Rattle.rdb_page.specs.Page.{IsClass}
 use Rattle.root_file.specs.Root.{AreLimits}
 use Rattle.line_view.specs.Knowledge.{Lines, IsInOrder, line_in}
+use Rattle.stable_lines.specs.Progress.{Progress}
+use Rattle.stable_lines.specs.Rolling.{Rolls}
 use Rattle.line_store.specs.Seats.{Seat, reading, copying}
 use Rattle.line_store.specs.Shelves.{Shelf}
 use Rattle.line_store.specs.Sights.{bare, Sight}
@@ -20,8 +24,8 @@ use Rattle.disk_store.specs.declared.held.Tables.{Tables}
 use Rattle.disk_store.specs.Classed.{LieClassed}
 use Rattle.disk_store.specs.Memory.{StoreMemory}
 use Rattle.disk_store.specs.Seats.{stand_at, steps_at}
-use Rattle.disk_store.specs.Shown.{Shown}
-use Rattle.store_copies.specs.Memory.{CopiesMemory, copied_by, copier_in}
+use Rattle.disk_store.specs.Shown.{RollsTo, Shown}
+use Rattle.store_copies.specs.Memory.{CopiesMemory, copied_by, copier_in, is_done}
 
 -- ---- seats
 
@@ -65,16 +69,47 @@ pub record GoesOn (v : View) (tables : Tables) (c : Copying) (lines : Lines) : T
   pub is : IsCopying former classes lines v c
   pub fit : IsFit tables c.backup.limits classes lines
 
--- A shelf is shown, without what is copied; and of who began a backup last, that backup goes on.
+-- Of who began a backup last, that backup goes on.
+abbrev pub AreGoing : View → Tables → CopiesMemory → Shelf → Type 0
+AreGoing v tables copies h = (s : ℕ) (c : Copying) (start : Lines) → copied_by copies s ≡ Some c → copier_in copies c.backup.number ≡ Some s → h.seat s ≡ reading start → GoesOn v tables c start
+
+-- and rolled forward its lines give what is committed
+abbrev pub AreBehind : CopiesMemory → Progress → Shelf → Type 0
+AreBehind copies now h = (s : ℕ) (c : Copying) (start : Lines) → copied_by copies s ≡ Some c → copier_in copies c.backup.number ≡ Some s → h.seat s ≡ reading start → RollsTo start c.backup.last_group now
+
+-- nobody is at work on the backup of this number
+abbrev pub IsQuiet : CopiesMemory → ℕ → Type 0
+IsQuiet copies number = (s : ℕ) (c : Copying) → copied_by copies s ≡ Some c → c.backup.number ≡ number → copier_in copies number ≡ Some s → ⊥
+
+-- Reads give the backup whole, whose lines rolled forward give what is committed.
+pub record IsRolling (v : View) (number : ℕ) (now : Progress) : Type 0 where
+  pub classes : ℕ → ℕ
+  pub lines : Lines
+  pub copying : Copying
+  pub number_is : copying.backup.number ≡ number
+  pub has : HasCopied classes lines copying.backup v.content
+  pub rolls : RollsTo lines copying.backup.last_group now
+
+-- Nobody is at work on a backup that has come to its end, and it is so.
+abbrev pub AreRolling : View → CopiesMemory → Progress → Type 0
+AreRolling v copies now = (number : ℕ) → is_done copies number ≡ true → IsQuiet copies number × IsRolling v number now
+
+-- A shelf is shown, without what is copied, and each backup is as it was left.
 pub record ShownWith (v : View) (held : StoreMemory) (copies : CopiesMemory) (h : Shelf) : Type 0 where
   pub plain : Shelf
   pub shown : Shown v held plain
   pub is : h ≡ with_copies (copied_by copies) plain
-  pub goes_on : (s : ℕ) (c : Copying) (start : Lines) → copied_by copies s ≡ Some c → copier_in copies c.backup.number ≡ Some s → plain.seat s ≡ reading start → GoesOn v held.tables c start
+  pub goes_on : AreGoing v held.tables copies plain
+  pub behind : AreBehind copies shown.ledger.base plain
+  pub rolling : AreRolling v copies shown.ledger.base
 
 -- ---- what a crash leaves
 
--- Each image that a crash since a moment might have left has the backup whole, of these lines, which fit its limits.
+-- the header of the image's journal numbers its groups from 1 on
+abbrev pub NumbersFromOne : Image → Type 0
+NumbersFromOne image = (first : ℕ) → IsHeader (image aij_file 0) first → 1 ≤ first
+
+-- Each image that a crash since a moment might have left has the backup whole, of these lines, which fit its limits; and rolled forward over the image's journal they give what the image stands for.
 pub record IsBackedUp (v : View) (number since : ℕ) (lines : Lines) : Type 0 where
   pub former : Former
   pub classes : ℕ → ℕ
@@ -83,6 +118,7 @@ pub record IsBackedUp (v : View) (number since : ℕ) (lines : Lines) : Type 0 w
   pub ended : copying.backup.stage ≡ Ended
   pub is : IsCopying former classes lines v copying
   pub left : (image : Image) → v.left_since since image → HasCopied classes lines copying.backup image
+  pub rolls : (image : Image) → v.left_since since image → NumbersFromOne image → Rolls lines copying.backup.last_group image
   pub ordered : IsInOrder lines
   pub limited : AreLimits copying.backup.limits
   pub pages : FitOnPages classes copying.backup.limits.pages lines
@@ -90,7 +126,8 @@ pub record IsBackedUp (v : View) (number since : ℕ) (lines : Lines) : Type 0 w
 -- and nobody is at work on it
 pub record IsBacked (v : View) (copies : CopiesMemory) (number since : ℕ) (lines : Lines) : Type 0 where
   pub whole : IsBackedUp v number since lines
-  pub quiet : (s : ℕ) (c : Copying) → copied_by copies s ≡ Some c → c.backup.number ≡ number → copier_in copies number ≡ Some s → ⊥
+  pub done : is_done copies number ≡ true
+  pub quiet : IsQuiet copies number
 
 -- what the store shows
 abbrev pub copied_sight : View → StoreMemory → CopiesMemory → Sight

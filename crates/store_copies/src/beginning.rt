@@ -1,5 +1,5 @@
 // A session begins to copy.
-ghost use Rattle.std.specs.Prelude.{◌≡◌, ℕ, [], None, OnOk, OnErr};
+ghost use Rattle.std.specs.Prelude.{◌≡◌, ◌≤◌, ◌+◌, ◌^◌, ℕ, [], None, OnOk, OnErr};
 ghost use Rattle.line_store.specs.Seats.{IsMember, IsBackupNumber, outside, copying};
 ghost use Rattle.line_store.specs.Sights.{Does, Stays, BeginsCopying};
 ghost use Rattle.disk_store.specs.declared.member.MemberStage.TheVariants as stage;
@@ -15,6 +15,14 @@ use rdb_types::{NoMemory, Session};
 
 // The greatest number that a group may have.
 const LAST_GROUP: u64 = 1 << 62;
+
+// The number of the last group, where this one comes next.
+fn last_group(next: u64) -> u64
+    ensures allowed { result ≤ 2 ^ 62 }
+    ensures before { 1 ≤ next → next ≤ 2 ^ 62 + 1 → result + 1 ≡ next }
+{
+    next.saturating_sub(1).min(LAST_GROUP)
+}
 
 /// A session begins a read-only transaction, whose lines are copied into the backup of this number. The backup's last group is the one before the next. No device call.
 pub fn begin_copy<D: Disk>(
@@ -37,9 +45,9 @@ pub fn begin_copy<D: Disk>(
 {
     held.sound();
     let limits = held.limits();
-    let last_group = held.next_group().number.saturating_sub(1).min(LAST_GROUP);
+    let last = last_group(held.next_group().number);
     begin_reading(disk, held, s)?;
     copies.note_last(s, number);
-    copies.set(s, Some(Copying::start(disk, number, limits, last_group)));
+    copies.set(s, Some(Copying::start(disk, number, limits, last)));
     Ok(())
 }

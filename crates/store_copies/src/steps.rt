@@ -61,7 +61,7 @@ pub fn copy_step<D: Disk>(
         return Err(fault);
     }
     if has_ended(&copying) {
-        copies.leave(s);
+        copies.finish(s, copying.backup.number);
         return Ok(Stepped::Done);
     }
     copies.set(s, Some(copying));

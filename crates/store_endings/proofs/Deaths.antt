@@ -8,7 +8,7 @@ use Rattle.line_view.specs.Knowledge.{Lines}
 use Rattle.line_store.specs.Seats.{dead, died, in_flight, IsAlive}
 use Rattle.line_store.specs.Shelves.{Shelf}
 use Rattle.line_store.specs.Calls.{Moves}
-use Rattle.line_store.specs.Sights.{bare, Does, Dies}
+use Rattle.line_store.specs.Sights.{bare, Dies}
 use Rattle.line_seat.specs.declared.commit.CommitStage.{CommitStage}
 use Rattle.member_steps.specs.declared.committing.CommitTurn.{CommitTurn}
 use Rattle.member_steps.specs.declared.committing.CommitTurn.TheVariants.{Entering, Securing, Going}
@@ -27,7 +27,7 @@ use Rattle.disk_store.specs.Dying.{going_to, recovery_at, dead_at, has_none, for
 use Rattle.disk_store.specs.Memory.{StoreMemory, with_member, at_stage}
 use Rattle.disk_store.specs.Seats.{seat_with, stand_of, stand_at}
 use Rattle.disk_store.specs.Standing.{IsCommitOf, IsGoing, StageStands}
-use Rattle.disk_store.specs.Shown.{Shown, sight_of}
+use Rattle.disk_store.specs.Shown.{DoesOn, Shown}
 use Rattle.disk_store.proofs.Moving.{itself}
 use Rattle.disk_store.proofs.Kept.{kept-stays}
 use Rattle.disk_store.proofs.Beside.{StaysWith, stays-with}
@@ -42,10 +42,10 @@ module _ (v : View) (held : StoreMemory) (s : ℕ) (m : Member) (was : slice_get
 
   -- the session's member is this one behind its death
   abbrev pub DiesAs : Member → Type 0
-  DiesAs n = Does s (died (stand_at held.members s)) (Dies s) (sight_of v held) (sight_of v (with_member s n held))
+  DiesAs n = DoesOn s (died (stand_at held.members s)) (Dies s) v held v (with_member s n held)
 
-  stood : (n : Member) → Does s (died (seat_with m.stage [] [])) (Dies s) (sight_of v held) (sight_of v (with_member s n held)) → DiesAs n
-  stood n does = subst (λ x. Does s (died (stand_of x)) (Dies s) (sight_of v held) (sight_of v (with_member s n held))) (sym was) does
+  stood : (n : Member) → DoesOn s (died (seat_with m.stage [] [])) (Dies s) v held v (with_member s n held) → DiesAs n
+  stood n does = subst (λ x. DoesOn s (died (stand_of x)) (Dies s) v held v (with_member s n held)) (sym was) does
 
   -- its death, from its seat
   dies-from : (h g : Shelf) (start : Lines) (b : Bool) (kept : List Write) → h.seat s ≡ seat_with m.stage ws start → died (seat_with m.stage ws start) ≡ dead b kept → Moves s (dead b kept) h g → Dies s h g
@@ -68,7 +68,7 @@ module _ (v : View) (held : StoreMemory) (s : ℕ) (m : Member) (was : slice_get
         stood n (does-apart v v held (record (with_member s n held) { numbers = held.numbers }) s m n was (becomes-member held held.numbers s n) (λ e. cc) refl (none-leaves v)
         (λ h shown stands. same-ledger v v (passes-none v) held s n h shown (λ t apart. refl) shown.numbers.ceiling (kept-stays held.members s held.numbers.next held.numbers.written m n was (omega arith) shown.kept) shown.facts (rests-now shown.ledger stands) tt)
         (omega arith) (omega arith) (died (seat_with m.stage [] [])) (Dies s) (arrives-at false arrives)
-        (λ h shown stands c is. not_resting v shown.ledger s shown.facts (rests-now shown.ledger stands) c is) (λ h shown stands. record { lines = refl; commit = refl }) space-same
+        (λ h shown stands c is. not_resting v shown.ledger s shown.facts (rests-now shown.ledger stands) c is) (λ h shown stands. record { lines = refl; journal = refl; commit = refl }) space-same
         (λ h g start related moves. dies-from h g start false (writes_in w.lines) related.seat (dies-at false (writes_in w.lines) dies start) moves))
 
     -- ---- one of which no page was written
@@ -93,7 +93,7 @@ module _ (v : View) (held : StoreMemory) (s : ℕ) (m : Member) (was : slice_get
         (λ h shown stands. same-ledger v v (passes-none v) held s n h shown (λ t apart. refl) shown.numbers.ceiling (kept-stays held.members s held.numbers.next held.numbers.written m n was (omega arith) shown.kept) shown.facts
         (let is = turned shown.ledger stands in record { at = at-turn; commit = record { plan = is.plan; its = is.its; number = is.number; lines = is.lines; long = is.long; count = is.count; keys = is.keys; under_way = is.under_way }; flying = flown }) tt)
         (omega arith) (omega arith) (died (seat_with m.stage [] [])) (Dies s) (arrives-at (stage.Committing (Going at-turn)) at true refl)
-        (λ start. sym (ap (λ x. in_flight (seat_with x ws start)) at)) (λ h shown stands. record { lines = refl; commit = refl }) space-same
+        (λ start. sym (ap (λ x. in_flight (seat_with x ws start)) at)) (λ h shown stands. record { lines = refl; journal = refl; commit = refl }) space-same
         (λ h g start related moves. dies-from h g start true ws related.seat (dies-at (stage.Committing (Going at-turn)) at true ws (λ start. refl) start) moves))
 
     -- it is given up
@@ -156,7 +156,7 @@ module _ (v : View) (held : StoreMemory) (s : ℕ) (m : Member) (was : slice_get
       given : DiesAs n
       given = stood n (does-moves v v held (record (with_member s n held) { numbers = held.numbers }) s m n was (becomes-member held held.numbers s n) (λ e. cc) refl (none-leaves v) given-now
           (omega arith) (omega arith) (died (seat_with m.stage [] [])) (Dies s) (arrives-at (stage.Committing (Going at-turn)) at true refl)
-          (λ h shown d bad. absurd (no_commit d bad)) (λ h shown stands. refl) space-same
+          (λ h shown d bad. absurd (no_commit d bad)) (λ h shown stands. refl) (λ h shown stands. refl) space-same
           (λ h g start related moves. dies-from h g start true ws related.seat (dies-at (stage.Committing (Going at-turn)) at true ws (λ start. refl) start) moves))
 
     going : (b : Bool) → flies at-turn ≡ b → DiesAs (at_stage (stage.Dead true (going_to b m.journalled)) m)

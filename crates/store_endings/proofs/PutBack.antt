@@ -15,7 +15,7 @@ use Rattle.line_moves.proofs.Putting.{nat_cases}
 use Rattle.line_opening.specs.Undoing.{PutsBack}
 use Rattle.line_store.specs.Shelves.{Shelf}
 use Rattle.line_store.specs.Calls.{Moves, GoesOn}
-use Rattle.line_store.specs.Sights.{bare, Does}
+use Rattle.line_store.specs.Sights.{bare}
 use Rattle.disk_seats.specs.Ledgers.{undoing, set_standing, stands_as, Ledger}
 use Rattle.disk_seats.specs.Members.{LedgerFacts}
 use Rattle.disk_seats.proofs.Standings.{not_undoing}
@@ -31,7 +31,7 @@ use Rattle.disk_store.specs.Dying.{undoing_with}
 use Rattle.disk_store.specs.Memory.{StoreMemory, with_member, at_stage}
 use Rattle.disk_store.specs.Seats.{seat_with, stand_of, stand_at, recovery_left, steps_in}
 use Rattle.disk_store.specs.Standing.{IsUndone, RecoveryStands, StageStands}
-use Rattle.disk_store.specs.Shown.{TablesStand, Shown, sight_of}
+use Rattle.disk_store.specs.Shown.{DoesOn, TablesStand, Shown}
 use Rattle.disk_store.proofs.Moving.{itself}
 use Rattle.disk_store.proofs.Kept.{kept-stays}
 use Rattle.disk_store.proofs.Beside.{SameSpaces, StaysWith, stays-with}
@@ -145,11 +145,11 @@ module _ (v w : View) (held : StoreMemory) (s : ℕ) (m : Member) (commits : Boo
   -- its seat stays
   pub does-back : (R : Shelf → Shelf → Type 0) →
       ((h g : Shelf) (shown : Shown v held h) → IsUndone shown.ledger s m left → Moves s (h.seat s) h g → h.steps s ≡ left + 3 → g.steps s ≡ recovery_left next n → h.clock.faults ≡ v.faults → g.clock.faults ≡ w.faults → R h g) →
-      Does s (stand_at held.members s) R (sight_of v held) (sight_of w (with_member s n held))
-  does-back R as-asked = subst (λ x. Does s (stand_of x) R (sight_of v held) (sight_of w (with_member s n held))) (sym was)
+      DoesOn s (stand_at held.members s) R v held w (with_member s n held)
+  does-back R as-asked = subst (λ x. DoesOn s (stand_of x) R v held w (with_member s n held)) (sym was)
       (does-apart v w held (record (with_member s n held) { numbers = held.numbers }) s m n was (becomes-member held held.numbers s n) (λ e. cc) only.told only.leaves put-now
       only.later only.no_fewer (stand_of (Some m)) R (ap (λ x. bare (seat_with x [] [])) (sym at))
-      (λ h shown stands c is. let undone = undone-at shown.ledger stands in not_undoing v shown.ledger s shown.facts undone.all left undone.stands c is) (λ h shown stands. record { lines = refl; commit = refl }) space-same
+      (λ h shown stands c is. let undone = undone-at shown.ledger stands in not_undoing v shown.ledger s shown.facts undone.all left undone.stands c is) (λ h shown stands. record { lines = refl; journal = refl; commit = refl }) space-same
       (λ h g start related moves. as-asked h g related.shown (undone-at related.shown.ledger related.stands)
       (subst (λ x. Moves s x h g) (ap (λ x. seat_with x (writes_in m.written.lines) start) (sym at) ∙ sym related.seat) moves)
       (related.steps ∙ ap (λ x. steps_in x m) at) related.steps_behind related.shown.lines.faults related.faults_behind))
@@ -169,12 +169,12 @@ module _ (v : View) (held : StoreMemory) (s : ℕ) (m : Member) (commits : Bool)
   fewer : (a b : ℕ) → a ≡ left + 3 → b ≡ 2 → b < a
   fewer a b three two = omega (arith, three, two)
 
-  pub does-none-left : Does s (stand_at held.members s) (λ h g. GoesOn s h g) (sight_of v held) (sight_of v (with_member s restoring held))
-  does-none-left = subst (λ x. Does s (stand_of x) (λ h g. GoesOn s h g) (sight_of v held) (sight_of v (with_member s restoring held))) (sym was)
+  pub does-none-left : DoesOn s (stand_at held.members s) (λ h g. GoesOn s h g) v held v (with_member s restoring held)
+  does-none-left = subst (λ x. DoesOn s (stand_of x) (λ h g. GoesOn s h g) v held v (with_member s restoring held)) (sym was)
       (does-apart v v held (record (with_member s restoring held) { numbers = held.numbers }) s m restoring was (becomes-member held held.numbers s restoring) (λ e. cc) refl (none-leaves v)
       (λ h shown stands. same-ledger v v (passes-none v) held s restoring h shown (λ t apart. refl) shown.numbers.ceiling (kept-stays held.members s held.numbers.next held.numbers.written m restoring was (omega arith) shown.kept) shown.facts (restores shown.ledger (undone-there shown.ledger stands)) tt)
       (omega arith) (omega arith) (stand_of (Some m)) (λ h g. GoesOn s h g) (ap (λ x. bare (seat_with x [] [])) (sym at))
-      (λ h shown stands c is. let u = undone-there shown.ledger stands in not_undoing v shown.ledger s shown.facts u.all 0 u.stands c is) (λ h shown stands. record { lines = refl; commit = refl }) space-same
+      (λ h shown stands c is. let u = undone-there shown.ledger stands in not_undoing v shown.ledger s shown.facts u.all 0 u.stands c is) (λ h shown stands. record { lines = refl; journal = refl; commit = refl }) space-same
       (λ h g start related moves. record {
         moves = subst (λ x. Moves s x h g) (ap (λ x. seat_with x (writes_in m.written.lines) start) (sym at) ∙ sym related.seat) moves;
         less = fewer (h.steps s) (g.steps s) (related.steps ∙ ap (λ x. steps_in x m) at) related.steps_behind;

@@ -9,7 +9,7 @@ use Rattle.line_view.specs.Knowledge.{Lines}
 use Rattle.line_store.specs.Seats.{outside, in_flight}
 use Rattle.line_store.specs.Shelves.{Shelf}
 use Rattle.line_store.specs.Calls.{Moves}
-use Rattle.line_store.specs.Sights.{bare, Does}
+use Rattle.line_store.specs.Sights.{bare}
 use Rattle.snapshot_file.specs.declared.entry.SnapEntry.{SnapEntry}
 use Rattle.snapshot_file.specs.Slots.{is_free}
 use Rattle.line_versions.specs.Versions.{sees}
@@ -32,7 +32,7 @@ use Rattle.disk_store.specs.Memory.{StoreMemory, with_member}
 use Rattle.disk_store.specs.Dying.{forgotten}
 use Rattle.disk_store.specs.Seats.{IsAtStage, seat_with, stand_at, stand_of}
 use Rattle.disk_store.specs.Standing.{StageStands}
-use Rattle.disk_store.specs.Shown.{IsReading, Sits, SitsAs, WaitsAs, Shown, used_in, sight_of}
+use Rattle.disk_store.specs.Shown.{DoesOn, IsReading, Sits, SitsAs, WaitsAs, Shown, used_in}
 use Rattle.disk_store.proofs.Members.{get-within, set-beside, set-here}
 use Rattle.disk_store.proofs.Kept.{kept-stays}
 use Rattle.disk_store.proofs.Beside.{same-areas, stays-there}
@@ -201,14 +201,14 @@ module _ (v : View) (held : StoreMemory) (s : ℕ) (m : Member) (was : slice_get
   still : (ws : List Write) (start : Lines) → in_flight (seat_with m.stage ws start) ≡ None
   still ws start = ap (λ x. in_flight (seat_with x ws start)) at
 
-  pub does-still : Does s outside (StaysStill s) (sight_of v held) (sight_of v behind)
+  pub does-still : DoesOn s outside (StaysStill s) v held v behind
   does-still = does-step v v held behind s m n was becomes (λ reads. let bad : stage.Outside ≡ stage.Reading = sym at ∙ reads in cc) refl (none-leaves v) to-given (omega arith) (omega arith) outside (StaysStill s)
-      (ap (λ x. bare (seat_with x [] [])) at) still (λ h shown stands. record { lines = refl; commit = refl }) (λ space. keeps-less held.slots behind.slots space)
+      (ap (λ x. bare (seat_with x [] [])) at) still (λ h shown stands. record { lines = refl; journal = refl; commit = refl }) (λ space. keeps-less held.slots behind.slots space)
       (λ h g start related moves. (subst (λ x. Moves s x h g) (sym related.seat) moves, related.time_behind ∙ sym related.shown.lines.time))
 
 -- by whether what it pushed is wanted
 by-wants : (v : View) (held : StoreMemory) (s : ℕ) (m : Member) (was : slice_get held.members s ≡ Some m) (out : m.stage ≡ stage.Outside) (mid : SnapshotSlots) → MayGive m.tsn.number held.members held.slots mid
-    → Does s outside (StaysStill s) (sight_of v held) (sight_of v (record (with_member s (without_slots m) held) { slots = without_asides m.aside mid }))
+    → DoesOn s outside (StaysStill s) v held v (record (with_member s (without_slots m) held) { slots = without_asides m.aside mid })
 by-wants v held s m was out mid (inl same) = does-still v held s m was out mid (λ file chain. false) (let e = ap used-all same.0 in omega (arith, e)) (λ h shown file chain e bad follows stands. absurd (false≢true bad))
     (λ h shown. subst (λ (x : SnapshotSlots). HoldsAll v.content (course_given (λ file chain. false) shown.versions.course).followed held.limits.snaps x) (sym same.0) (λ file is. record {
       long = (shown.versions.slots file is).long;
@@ -218,11 +218,11 @@ by-wants v held s m was out mid (inl same) = does-still v held s m was out mid (
 by-wants v held s m was out mid (inr given) = does-still v held s m was out mid (pushed-by held.slots m.tsn.number) (all-fewer m.tsn.number held.slots mid given.back)
     (λ h shown. may-give v held m.tsn.number mid given h shown) (λ h shown. still-holds v held m.tsn.number mid given h shown)
 
-pub does-give : (v : View) (held after : StoreMemory) (s : ℕ) → IsAtStage held.members s stage.Outside → GivesSlots s held after → Does s outside (StaysStill s) (sight_of v held) (sight_of v after)
+pub does-give : (v : View) (held after : StoreMemory) (s : ℕ) → IsAtStage held.members s stage.Outside → GivesSlots s held after → DoesOn s outside (StaysStill s) v held v after
 does-give v held after s at gives =
     let m : Member = gives.member in
     let out : m.stage ≡ stage.Outside = subst (λ (x : Member). x.stage ≡ stage.Outside) (same_Some at.member m (sym at.is ∙ gives.was)) at.at in
-    subst (λ (x : StoreMemory). Does s outside (StaysStill s) (sight_of v held) (sight_of v x)) (sym gives.is) (by-wants v held s m gives.was out gives.mid gives.gives)
+    subst (λ (x : StoreMemory). DoesOn s outside (StaysStill s) v held v x) (sym gives.is) (by-wants v held s m gives.was out gives.mid gives.gives)
 
 -- ---- behind the end
 
@@ -271,11 +271,11 @@ no-slots held after s gives =
 
 -- ---- behind a reader
 
-pub does-sift : (v : View) (held after : StoreMemory) (s : ℕ) → IsAtStage held.members s stage.Outside → SiftsSlots s held after → Does s outside (StaysStill s) (sight_of v held) (sight_of v after)
+pub does-sift : (v : View) (held after : StoreMemory) (s : ℕ) → IsAtStage held.members s stage.Outside → SiftsSlots s held after → DoesOn s outside (StaysStill s) v held v after
 does-sift v held after s at sifts =
     let m : Member = sifts.member in
     let out : m.stage ≡ stage.Outside = subst (λ (x : Member). x.stage ≡ stage.Outside) (same_Some at.member m (sym at.is ∙ sifts.was)) at.at in
-    subst (λ (x : StoreMemory). Does s outside (StaysStill s) (sight_of v held) (sight_of v x)) (sym sifts.is)
+    subst (λ (x : StoreMemory). DoesOn s outside (StaysStill s) v held v x) (sym sifts.is)
     (does-still v held s m sifts.was out sifts.mid (free-now sifts.mid) (sifted-less held.members held.slots sifts.mid sifts.sifts) (may-sift v held sifts.mid sifts.sifts) (sifted-holds v held sifts.mid sifts.sifts))
 
 module _ (held : StoreMemory) (s : ℕ) (m : Member) (was : slice_get held.members s ≡ Some m) (mid : SnapshotSlots) (all : SiftsAll held.members held.slots mid) where

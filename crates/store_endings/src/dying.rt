@@ -1,10 +1,10 @@
 // A session dies.
 ghost use Rattle.std.specs.Prelude.{◌≡◌};
 ghost use Rattle.line_store.specs.Seats.{IsMember, IsAlive, died};
-ghost use Rattle.line_store.specs.Sights.{Does, Dies};
+ghost use Rattle.line_store.specs.Sights.{Dies};
 ghost use Rattle.disk_store.specs.Dying.{recovery_at, dead_at, has_none};
 ghost use Rattle.disk_store.specs.Seats.{stand_at};
-ghost use Rattle.disk_store.specs.Shown.{sight_of};
+ghost use Rattle.disk_store.specs.Shown.{DoesOn};
 
 use disk_store::{Held, MemberStage, Recovery};
 use line_seat::CommitStage;
@@ -64,7 +64,7 @@ fn forgets(stage: MemberStage) -> bool
 pub fn die<D: Disk>(_disk: &D, held: &mut Held, s: Session)
     requires member { IsMember s.number }
     requires alive { IsAlive (stand_at held.old.members s.number) }
-    ensures does { Does s.number (died (stand_at held.old.members s.number)) (Dies s.number) (sight_of (D.view _disk.now) held.old) (sight_of (D.view _disk.now) held.new) }
+    ensures does { DoesOn s.number (died (stand_at held.old.members s.number)) (Dies s.number) (D.view _disk.now) held.old (D.view _disk.now) held.new }
     ensures tables { held.new.tables ≡ held.old.tables }
 {
     held.keeps_commits();

@@ -1,14 +1,14 @@
 // What an ended transaction left is put away: one write, which closes its header. Of a session that died, too.
 ghost use Rattle.std.specs.Prelude.{◌≡◌, ◌⊎◌, Bool, Ok, OnOk};
 ghost use Rattle.line_store.specs.Seats.{IsMember};
-ghost use Rattle.line_store.specs.Sights.{Does, Steps, stepped_to, MayAnswer, IsLess};
+ghost use Rattle.line_store.specs.Sights.{Steps, stepped_to, MayAnswer, IsLess};
 ghost use Rattle.line_store.specs.declared.answers.Stepped.TheVariants as stepped;
 ghost use Rattle.disk_store.specs.declared.member.MemberStage.TheVariants as stage;
 ghost use Rattle.disk_store.specs.declared.member.Recovery.TheVariants as recovery;
 ghost use Rattle.disk_store.specs.Giving.{HasNoSlots};
 ghost use Rattle.disk_store.specs.OwnFiles.{WritesOwn};
 ghost use Rattle.disk_store.specs.Seats.{stand_at, IsAtStage};
-ghost use Rattle.disk_store.specs.Shown.{sight_of};
+ghost use Rattle.disk_store.specs.Shown.{DoesOn, sight_of};
 
 use disk_seats::close;
 use disk_store::{Held, MemberStage};
@@ -21,8 +21,8 @@ pub fn put_away<D: Disk>(disk: &mut D, held: &mut Held, s: Session) -> Result<St
     requires member { IsMember s.number }
     requires ended { IsAtStage held.old.members s.number stage.RollingBack ⊎ IsAtStage held.old.members s.number stage.Closing }
     ensures answers { MayAnswer (stand_at held.old.members s.number) result }
-    ensures comes { Does s.number (stepped_to (stand_at held.old.members s.number) result)
-        (Steps s.number result) (sight_of (D.view disk.old) held.old) (sight_of (D.view disk.new) held.new) }
+    ensures comes { DoesOn s.number (stepped_to (stand_at held.old.members s.number) result)
+        (Steps s.number result) (D.view disk.old) held.old (D.view disk.new) held.new }
     ensures slots { OnOk result (HasNoSlots s.number held.new) }
     ensures less { result ≡ Ok stepped.More → IsLess s.number (sight_of (D.view disk.old) held.old) (sight_of (D.view disk.new) held.new) }
 
@@ -43,8 +43,8 @@ pub fn bury<D: Disk>(disk: &mut D, held: &mut Held, s: Session) -> Result<Steppe
     requires member { IsMember s.number }
     requires died { (commits : Bool) × IsAtStage held.old.members s.number (stage.Dead commits recovery.Ending) }
     ensures answers { MayAnswer (stand_at held.old.members s.number) result }
-    ensures comes { Does s.number (stepped_to (stand_at held.old.members s.number) result)
-        (Steps s.number result) (sight_of (D.view disk.old) held.old) (sight_of (D.view disk.new) held.new) }
+    ensures comes { DoesOn s.number (stepped_to (stand_at held.old.members s.number) result)
+        (Steps s.number result) (D.view disk.old) held.old (D.view disk.new) held.new }
     ensures slots { OnOk result (HasNoSlots s.number held.new) }
     ensures less { result ≡ Ok stepped.More → IsLess s.number (sight_of (D.view disk.old) held.old) (sight_of (D.view disk.new) held.new) }
 

@@ -2,10 +2,9 @@
 ghost use Rattle.std.specs.Prelude.{◌≡◌};
 ghost use Rattle.line_store.specs.Seats.{IsMember, IsReader, outside};
 ghost use Rattle.line_store.specs.Calls.{Moves};
-ghost use Rattle.line_store.specs.Sights.{Does};
 ghost use Rattle.disk_store.specs.Giving.{HasAllWanted};
 ghost use Rattle.disk_store.specs.Seats.{stand_at};
-ghost use Rattle.disk_store.specs.Shown.{sight_of};
+ghost use Rattle.disk_store.specs.Shown.{DoesOn};
 
 use disk_store::{Held, leave_reading};
 use rdb_outside::Disk;
@@ -15,7 +14,7 @@ use rdb_types::Session;
 pub fn end_reading<D: Disk>(disk: &D, held: &mut Held, s: Session)
     requires member { IsMember s.number }
     requires reader { IsReader (stand_at held.old.members s.number) }
-    ensures comes { Does s.number outside (Moves s.number outside) (sight_of (D.view disk.now) held.old) (sight_of (D.view disk.now) held.new) }
+    ensures comes { DoesOn s.number outside (Moves s.number outside) (D.view disk.now) held.old (D.view disk.now) held.new }
 
     // What is left in use somebody wants.
     ensures slots { HasAllWanted held.new }

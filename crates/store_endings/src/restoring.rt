@@ -1,13 +1,13 @@
 // What a session that died had on pages is put back, and made stable.
 ghost use Rattle.std.specs.Prelude.{◌≡◌, Ok};
 ghost use Rattle.line_store.specs.Seats.{IsMember};
-ghost use Rattle.line_store.specs.Sights.{Does, Steps, stepped_to, MayAnswer, IsLess};
+ghost use Rattle.line_store.specs.Sights.{Steps, stepped_to, MayAnswer, IsLess};
 ghost use Rattle.line_store.specs.declared.answers.Stepped.TheVariants as stepped;
 ghost use Rattle.disk_store.specs.declared.member.MemberStage.TheVariants as stage;
 ghost use Rattle.disk_store.specs.declared.member.Recovery.TheVariants as recovery;
 ghost use Rattle.disk_store.specs.OwnFiles.{WritesOwn};
 ghost use Rattle.disk_store.specs.Seats.{stand_at, IsAtStage};
-ghost use Rattle.disk_store.specs.Shown.{sight_of};
+ghost use Rattle.disk_store.specs.Shown.{DoesOn, sight_of};
 
 use disk_seats::settle;
 use disk_store::{Held, MemberStage, Recovery};
@@ -25,8 +25,8 @@ pub fn restore<D: Disk>(
     requires member { IsMember s.number }
     requires died { IsAtStage held.old.members s.number (stage.Dead commits recovery.Restoring) }
     ensures answers { MayAnswer (stand_at held.old.members s.number) result }
-    ensures comes { Does s.number (stepped_to (stand_at held.old.members s.number) result)
-        (Steps s.number result) (sight_of (D.view disk.old) held.old) (sight_of (D.view disk.new) held.new) }
+    ensures comes { DoesOn s.number (stepped_to (stand_at held.old.members s.number) result)
+        (Steps s.number result) (D.view disk.old) held.old (D.view disk.new) held.new }
     ensures less { result ≡ Ok stepped.More → IsLess s.number (sight_of (D.view disk.old) held.old) (sight_of (D.view disk.new) held.new) }
 
     // One slot at most is written, of the database's own files.

@@ -1,9 +1,9 @@
 // A transaction of which no page was written is undone, or dies.
 ghost use Rattle.std.specs.Prelude.{◌≡◌, []};
 ghost use Rattle.line_store.specs.Seats.{IsMember, IsWriting, rolling_back};
-ghost use Rattle.line_store.specs.Sights.{Does, RollsBack};
+ghost use Rattle.line_store.specs.Sights.{RollsBack};
 ghost use Rattle.disk_store.specs.Seats.{stand_at};
-ghost use Rattle.disk_store.specs.Shown.{sight_of};
+ghost use Rattle.disk_store.specs.Shown.{DoesOn};
 
 use disk_store::{Held, MemberStage};
 use rdb_outside::Disk;
@@ -13,7 +13,7 @@ use rdb_types::Session;
 pub fn roll_back<D: Disk>(_disk: &D, held: &mut Held, s: Session)
     requires member { IsMember s.number }
     requires seat { IsWriting (stand_at held.old.members s.number) }
-    ensures does { Does s.number (rolling_back []) (RollsBack s.number) (sight_of (D.view _disk.now) held.old) (sight_of (D.view _disk.now) held.new) }
+    ensures does { DoesOn s.number (rolling_back []) (RollsBack s.number) (D.view _disk.now) held.old (D.view _disk.now) held.new }
     ensures tables { held.new.tables ≡ held.old.tables }
 {
     held.set_stage(s, MemberStage::RollingBack);

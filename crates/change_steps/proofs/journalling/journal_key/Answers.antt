@@ -9,7 +9,6 @@ use Rattle.rdb_outside.specs.Moments.{each_slot}
 use Rattle.line_store.specs.Calls.{Fails, GoesOn}
 use Rattle.line_store.specs.declared.answers.Fault.TheVariants.{Bad}
 use Rattle.line_store.specs.Seats.{failed_at}
-use Rattle.line_store.specs.Sights.{Does}
 use Rattle.disk_seats.specs.Members.{LedgerFacts}
 use Rattle.member_steps.specs.Journalling.{ledger_with}
 use Rattle.member_steps.specs.declared.journalling.Journalled.{Journalled}
@@ -18,7 +17,7 @@ use Rattle.disk_store.specs.declared.member.Member.{Member}
 use Rattle.disk_store.specs.declared.member.MemberStage.TheVariants as stage
 use Rattle.disk_store.specs.Memory.{StoreMemory, at_stage, with_member}
 use Rattle.disk_store.specs.Seats.{stand_at}
-use Rattle.disk_store.specs.Shown.{sight_of}
+use Rattle.disk_store.specs.Shown.{DoesOn}
 use Rattle.disk_store.specs.ChangeSteps.{named_now, journalled_more}
 use Rattle.disk_store.proofs.Closing.{one-member}
 use Rattle.change_steps.proofs.ChangeCalls.{place-for, fewer-at}
@@ -52,7 +51,7 @@ returns-then-named-clause-comes g c =
     let at : m.stage ≡ stage.Changing = subst (λ (x : Member). x.stage ≡ stage.Changing) one c.requires.changes.at in
     let comes = c.set_stage.ensures.comes in
     let same : comes.0 ≡ m = one-member held.members s comes.0 m comes.1 c.member-member.ensures in
-    subst (λ (new : StoreMemory). Does s (failed_at (stand_at held.members s)) (λ h k. Fails s (Bad c.ruj_file.result 0) h k) (sight_of v held) (sight_of w new)) (sym (comes.2 ∙ ap (λ (x : Member). with_member s (at_stage stage.Broken x) held) same))
+    subst (λ (new : StoreMemory). DoesOn s (failed_at (stand_at held.members s)) (λ h k. Fails s (Bad c.ruj_file.result 0) h k) v held w new) (sym (comes.2 ∙ ap (λ (x : Member). with_member s (at_stage stage.Broken x) held) same))
     (does-unnamed v w held s m c.member-member.ensures c.sound.ensures at c.journal_next.ensures.writes.0 c.journal_next.ensures.writes.1
     (λ t ledger has facts. c.journal_next.ensures.keeps t ledger has.transaction has.all has.stable facts has.stands has.is_open has.number has.count)
     c.ruj_file.result 0 c.if-named.true (λ t. c.in-Ok-Header.ensures.another (ap Ok c.in-Ok-Header.field-0-is) t))
@@ -68,7 +67,7 @@ returns-in-Err-clause-comes g c =
     let at : m.stage ≡ stage.Changing = subst (λ (x : Member). x.stage ≡ stage.Changing) one c.requires.changes.at in
     let comes = c.set_stage-in-Err.ensures.comes in
     let same : comes.0 ≡ m = one-member held.members s comes.0 m comes.1 c.member-member.ensures in
-    subst (λ (new : StoreMemory). Does s (failed_at (stand_at held.members s)) (λ h k. Fails s c.in-Err.fault h k) (sight_of v held) (sight_of w new)) (sym (comes.2 ∙ ap (λ (x : Member). with_member s (at_stage stage.Broken x) held) same))
+    subst (λ (new : StoreMemory). DoesOn s (failed_at (stand_at held.members s)) (λ h k. Fails s c.in-Err.fault h k) v held w new) (sym (comes.2 ∙ ap (λ (x : Member). with_member s (at_stage stage.Broken x) held) same))
     (does-fault v w held s m c.member-member.ensures c.sound.ensures at c.journal_next.ensures.writes.0 c.journal_next.ensures.writes.1
     (λ t ledger has facts. c.journal_next.ensures.keeps t ledger has.transaction has.all has.stable facts has.stands has.is_open has.number has.count) c.in-Err.fault
     (λ e. c.in-Err.ensures.failed (ap Err e)) (λ h shown file slot e. c.in-Err.ensures.bad file slot (ap Err e) shown.tells (record { first = c.requires.member.first; last = c.requires.member.last }) shown.ledger shown.facts))
@@ -86,7 +85,7 @@ returns-in-Ok-BeforeImage-clause-comes g c =
     let is : (d : Dbkey) → slice_get m.written.keys m.journalled ≡ Some (slice_index_or c.keys.result.now m.journalled d) = λ d. ap (λ ks. slice_get ks m.journalled) (sym c.keys.ensures.value) ∙ slice_get-get_or c.keys.result.now m.journalled d less in
     let comes = c.count_journalled.ensures in
     let same : comes.0 ≡ m = one-member held.members s comes.0 m comes.1 c.member-member.ensures in
-    subst (λ (new : StoreMemory). Does s (stand_at held.members s) (λ h k. GoesOn s h k) (sight_of v held) (sight_of w new)) (sym (comes.2 ∙ ap (λ (x : Member). with_member s (journalled_more x) held) same))
+    subst (λ (new : StoreMemory). DoesOn s (stand_at held.members s) (λ h k. GoesOn s h k) v held w new) (sym (comes.2 ∙ ap (λ (x : Member). with_member s (journalled_more x) held) same))
     (does-journal v w held s m c.member-member.ensures c.sound.ensures at c.journal_next.ensures.writes.0 c.journal_next.ensures.writes.1 _ (is _) (λ tells. each_slot v v.content (g.met.D.Disk.content_left c.args.disk.now v.moment tells (omega arith)))
     (λ t ledger o all stable facts stands open-is tsn count none left within. behind-image w _ s all _ stable ledger c.in-Ok-BeforeImage.field-0-is (c.in-Ok-BeforeImage.ensures.goes_on t ledger o all stable facts stands open-is tsn count none left within)))
 
@@ -103,7 +102,7 @@ returns-else-named-clause-comes g c =
     let is : (d : Dbkey) → slice_get m.written.keys m.journalled ≡ Some (slice_index_or c.keys.result.now m.journalled d) = λ d. ap (λ ks. slice_get ks m.journalled) (sym c.keys.ensures.value) ∙ slice_get-get_or c.keys.result.now m.journalled d less in
     let comes = c.note_named.ensures in
     let same : comes.0 ≡ m = one-member held.members s comes.0 m comes.1 c.member-member.ensures in
-    subst (λ (new : StoreMemory). Does s (stand_at held.members s) (λ h k. GoesOn s h k) (sight_of v held) (sight_of w new)) (sym (comes.2 ∙ ap (λ (x : Member). with_member s (named_now x) held) same))
+    subst (λ (new : StoreMemory). DoesOn s (stand_at held.members s) (λ h k. GoesOn s h k) v held w new) (sym (comes.2 ∙ ap (λ (x : Member). with_member s (named_now x) held) same))
     (does-name v w held s m c.member-member.ensures c.sound.ensures at c.journal_next.ensures.writes.0 c.journal_next.ensures.writes.1
     (header-facts v w held s m c.member-member.ensures c.sound.ensures _ (is _) (λ t ledger o all stable facts stands open-is tsn count none left within. behind-header w _ s all _ stable ledger c.in-Ok-Header.field-0-is (c.in-Ok-Header.ensures.goes_on t ledger o all stable facts stands open-is tsn count none left within))) c.if-named.false
     (λ t. c.in-Ok-Header.ensures.names (ap Ok c.in-Ok-Header.field-0-is) t))

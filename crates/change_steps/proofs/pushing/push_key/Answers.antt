@@ -5,12 +5,11 @@ use Rattle.rdb_outside.specs.Moments.{each_slot}
 use Rattle.line_versions.specs.Versions.{snap_of}
 use Rattle.line_store.specs.Calls.{Fails, GoesOn}
 use Rattle.line_store.specs.Seats.{failed_at}
-use Rattle.line_store.specs.Sights.{Does}
 use Rattle.disk_store.specs.declared.member.Member.{Member}
 use Rattle.disk_store.specs.declared.member.MemberStage.TheVariants as stage
 use Rattle.disk_store.specs.Memory.{StoreMemory}
 use Rattle.disk_store.specs.Seats.{stand_at}
-use Rattle.disk_store.specs.Shown.{sight_of}
+use Rattle.disk_store.specs.Shown.{DoesOn}
 use Rattle.change_steps.proofs.PushFaults.{does-push-fail}
 use Rattle.change_steps.proofs.NextPushed.{does-next-pass, does-next-push, next-passed-less, next-pushed-less}
 use Rattle.disk_store.specs.OwnFiles.{WritesOwn}
@@ -25,7 +24,7 @@ returns-in-Err-clause-comes g c =
     let held : StoreMemory = c.args.held.now in
     let off = c.in-Err.ensures.breaks in
     let at : off.member.stage ≡ stage.Changing = subst (λ (x : Member). x.stage ≡ stage.Changing) (same_Some c.requires.changes.member off.member (sym c.requires.changes.is ∙ off.was)) c.requires.changes.at in
-    subst (λ (new : StoreMemory). Does s (failed_at (stand_at held.members s)) (λ h k. Fails s c.in-Err.fault h k) (sight_of v held) (sight_of w new)) (sym off.is)
+    subst (λ (new : StoreMemory). DoesOn s (failed_at (stand_at held.members s)) (λ h k. Fails s c.in-Err.fault h k) v held w new) (sym off.is)
     (does-push-fail v w held s off.member off.was at c.args.key off.chain off.slots off.takes c.in-Err.fault
     (λ e. c.in-Err.ensures.failed (ap Err e)) (λ h shown file slot e. c.in-Err.ensures.bad file slot (ap Err e) h shown))
 
@@ -40,7 +39,7 @@ returns-clause-comes g c =
     let now : IsTrue v.tells → IsPending v v.content = λ tells. each_slot v v.content (g.met.D.Disk.content_left c.args.disk.now v.moment tells (omega arith)) in
     elim c.in_default.ensures.pushed [
       | inl pushes ↦ does-next-push v w held behind s c.args.key c.requires.changes c.requires.next pushes c.sound.ensures now
-      | inr passes ↦ subst (λ d. Does s (stand_at held.members s) (λ h k. GoesOn s h k) (sight_of v held) (sight_of (g.D.Disk.view d) behind)) (sym passes.1) (does-next-pass v held behind s c.args.key c.requires.changes c.requires.next passes.0 c.sound.ensures now)
+      | inr passes ↦ subst (λ d. DoesOn s (stand_at held.members s) (λ h k. GoesOn s h k) v held (g.D.Disk.view d) behind) (sym passes.1) (does-next-pass v held behind s c.args.key c.requires.changes c.requires.next passes.0 c.sound.ensures now)
     ]
 
 pub returns-clause-less : goal.returns-clause-less

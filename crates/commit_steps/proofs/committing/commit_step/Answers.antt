@@ -1,7 +1,6 @@
 use Rattle.std.proofs.Common.{◌≡◌, length, Err, sym, ap, subst, ◌∙◌, arith}
 use Rattle.line_store.specs.Seats.{closing, failed_at}
 use Rattle.line_store.specs.Calls.{Fails, GoesOn, IsCommitted}
-use Rattle.line_store.specs.Sights.{Does}
 use Rattle.member_steps.specs.declared.committing.CommitTurn.{CommitTurn}
 use Rattle.member_steps.specs.declared.committing.CommitTurn.TheVariants.{Entering}
 use Rattle.disk_store.specs.declared.member.Member.{Member}
@@ -10,7 +9,7 @@ use Rattle.disk_store.specs.declared.held.Tables.{Tables}
 use Rattle.disk_store.specs.Grown.{Grow}
 use Rattle.disk_store.specs.Memory.{StoreMemory, with_member, at_stage}
 use Rattle.disk_store.specs.Seats.{stand_at, steps_at, steps_of, steps_in, turns_left}
-use Rattle.disk_store.specs.Shown.{sight_of}
+use Rattle.disk_store.specs.Shown.{DoesOn}
 use Rattle.disk_store.proofs.Members.{set-here}
 use Rattle.disk_store.proofs.CommitsKept.{ready-now}
 use Rattle.disk_store.proofs.Closing.{one-member}
@@ -33,7 +32,7 @@ returns-then-writes_none-clause-comes g c =
     let at : m.stage ≡ stage.Committing (Entering none.at) = subst (λ (x : Member). x.stage ≡ stage.Committing c.turn_of-turn.result) (one-member held.members s turned.member m turned.is none.is) turned.at ∙ ap stage.Committing none.begins in
     let comes = c.set_stage.ensures.comes in
     let same : comes.0 ≡ m = one-member held.members s comes.0 m comes.1 none.is in
-    subst (λ new. Does s closing (λ h k. IsCommitted s c.moment.result.number h k) (sight_of v held) (sight_of v new))
+    subst (λ new. DoesOn s closing (λ h k. IsCommitted s c.moment.result.number h k) v held v new)
     (sym (comes.2 ∙ ap (λ (x : Member). with_member s (at_stage stage.Closing x) held) same))
     (does-commit-none v held s m none.is none.at at none.none (c.sound.ensures.each s m none.is).keys (λ tells. g.met.D.Disk.content_left c.args.disk.now v.moment tells (omega arith)) c.moment.result.number c.moment.ensures)
 
@@ -49,7 +48,7 @@ returns-then-is_through-clause-comes g c =
     let m : Member = comes.0 in
     let was = comes.1 in
     let at : m.stage ≡ stage.Committing turn = subst (λ (x : Member). x.stage ≡ stage.Committing turn) (one-member held.members s turned.member m turned.is was) turned.at in
-    subst (λ new. Does s closing (λ h k. IsCommitted s c.moment-then-is_through.result.number h k) (sight_of v held) (sight_of w new)) (sym comes.4)
+    subst (λ new. DoesOn s closing (λ h k. IsCommitted s c.moment-then-is_through.result.number h k) v held w new) (sym comes.4)
     (does-last v w held s m was turn c.in-Ok.next at c.sound.ensures c.keeps_commits.ensures (ready-now held s m turn c.keeps_commits.ensures turned was).0 (c.is_through.ensures.yes c.if-is_through.true) (c.in-Ok.ensures m was) comes.2 comes.3
     (λ tells. g.met.D.Disk.content_left c.turn_on.new.disk w.moment tells (omega arith)) c.moment-then-is_through.result.number c.moment-then-is_through.ensures)
 
@@ -65,7 +64,7 @@ returns-else-is_through-clause-comes g c =
     let m : Member = comes.0 in
     let was = comes.1 in
     let at : m.stage ≡ stage.Committing turn = subst (λ (x : Member). x.stage ≡ stage.Committing turn) (one-member held.members s turned.member m turned.is was) turned.at in
-    subst (λ new. Does s (stand_at held.members s) (λ h k. GoesOn s h k) (sight_of v held) (sight_of w new)) (sym comes.2)
+    subst (λ new. DoesOn s (stand_at held.members s) (λ h k. GoesOn s h k) v held w new) (sym comes.2)
     (does-further v w held s m was turn c.in-Ok.next at c.sound.ensures c.keeps_commits.ensures (ready-now held s m turn c.keeps_commits.ensures turned was).0 (c.in-Ok.ensures m was) (c.is_through.ensures.no c.if-is_through.false)
     (λ tells. g.met.D.Disk.content_left c.args.disk.now v.moment tells (omega arith)))
 
@@ -99,7 +98,7 @@ returns-in-Err-clause-comes g c =
     let was = comes.1 in
     let at : m.stage ≡ stage.Committing turn = subst (λ (x : Member). x.stage ≡ stage.Committing turn) (one-member held.members s turned.member m turned.is was) turned.at in
     let makes = c.in-Err.ensures m was in
-    subst (λ new. Does s (failed_at (stand_at held.members s)) (λ h k. Fails s c.in-Err.fault h k) (sight_of v held) (sight_of w new))
+    subst (λ new. DoesOn s (failed_at (stand_at held.members s)) (λ h k. Fails s c.in-Err.fault h k) v held w new)
     (sym (comes.2 ∙ ap (λ (t : CommitTurn). with_member s (at_stage (stage.Committing t) m) held) c.made_again.ensures))
     (does-again v w held s m was turn at c.sound.ensures c.keeps_commits.ensures (ready-now held s m turn c.keeps_commits.ensures turned was).0 (Err c.in-Err.fault) makes c.in-Err.fault (λ e. makes.failed (ap Err e)) (λ file slot e. ap Err e))
 

@@ -1,7 +1,7 @@
 use Rattle.std.proofs.Common.{◌≡◌, ◌<◌, ◌+◌, ◌-◌, ◌≤◌, ℕ, refl, sym, subst, ap, ◌∙◌, arith}
 use Rattle.line_store.specs.Calls.{IsDone, GoesOn}
 use Rattle.line_store.specs.Seats.{done_at}
-use Rattle.line_store.specs.Sights.{Does, seat_or}
+use Rattle.line_store.specs.Sights.{seat_or}
 use Rattle.disk_store.specs.declared.member.Ceiling.TheVariants.{Asking, Raised}
 use Rattle.disk_store.specs.declared.member.Member.{Member}
 use Rattle.disk_store.specs.declared.member.MemberStage.TheVariants as stage
@@ -9,7 +9,7 @@ use Rattle.disk_store.specs.declared.held.Numbers.{Numbers}
 use Rattle.disk_store.specs.Memory.{StoreMemory, with_member, with_number, at_stage}
 use Rattle.disk_store.specs.Numbers.{kept_in, with_raised}
 use Rattle.disk_store.specs.Seats.{stand_at, steps_at, steps_of, steps_in}
-use Rattle.disk_store.specs.Shown.{sight_of}
+use Rattle.disk_store.specs.Shown.{DoesOn}
 use Rattle.disk_store.proofs.Members.{set-here}
 use Rattle.disk_store.proofs.Closing.{one-member}
 use Rattle.disk_store.proofs.Failing.{does-fail}
@@ -34,7 +34,7 @@ returns-then-kept-free-clause-comes g c =
     let same : comes.0 ≡ at.member = one-member held.members s comes.0 at.member comes.1 at.is in
     let numbers = ap (λ (x : StoreMemory). x.numbers) c.held.view_is in
     let below = free-below c.kept.result (kept_in held.members) c.held.inside.numbers held.numbers numbers c.kept.ensures.value (subst (λ (k : ℕ). c.kept.result < k) c.saturating_sub-free.ensures c.if-kept-free.true) in
-    subst (λ new. Does s (seat_or (stand_at held.members s) (done_at (stand_at held.members s))) (λ h k. IsDone s h k) (sight_of v held) (sight_of v new))
+    subst (λ new. DoesOn s (seat_or (stand_at held.members s) (done_at (stand_at held.members s))) (λ h k. IsDone s h k) v held v new)
     (sym (comes.2 ∙ ap (λ (x : Member). with_number s x held) same))
     (does-draw v v held s held.numbers.ceiling at.member Asking at.is c.requires.member at.at (leads-nowhere v held) (may-draw v held s at.member at.is at.at below))
 
@@ -48,7 +48,7 @@ returns-then-held-clause-comes g c =
     let same : comes.0 ≡ at.member = one-member held.members s comes.0 at.member comes.1 at.is in
     let few : kept_in held.members ≤ 17 = few-kept c.kept.result (kept_in held.members) c.kept.ensures.value c.kept.ensures.few in
     let higher = subst (λ (n : Numbers). n.ceiling < n.written) (ap (λ (x : StoreMemory). x.numbers) c.held.view_is) c.if-held.true in
-    subst (λ new. Does s (stand_at held.members s) (λ h k. GoesOn s h k) (sight_of v held) (sight_of v new))
+    subst (λ new. DoesOn s (stand_at held.members s) (λ h k. GoesOn s h k) v held v new)
     (sym (comes.2 ∙ ap (λ (x : Member). with_member s (at_stage (stage.Beginning Raised) x) held) same))
     (does-raise v v held s held.numbers.written at.member at.is at.at (leads-nowhere v held) (raised-before v held few higher))
 
@@ -95,7 +95,7 @@ returns-clause-comes g c =
     let same : comes.0 ≡ at.member = one-member held.members s comes.0 at.member comes.1 at.is in
     let lower = subst (λ (n : Numbers). n.written ≤ n.ceiling) (ap (λ (x : StoreMemory). x.numbers) c.held.view_is) c.if-held.false in
     let few : kept_in held.members ≤ 17 = few-kept c.kept.result (kept_in held.members) c.kept.ensures.value c.kept.ensures.few in
-    subst (λ new. Does s (stand_at held.members s) (λ h k. GoesOn s h k) (sight_of v held) (sight_of w new))
+    subst (λ new. DoesOn s (stand_at held.members s) (λ h k. GoesOn s h k) v held w new)
     (sym (comes.2 ∙ ap (λ (x : Member). with_raised s root.ceiling x held) same))
     (does-raise v w held s root.ceiling at.member at.is at.at
     (leads-root v w held root c.raise_ceiling.ensures.writes c.in-Some.ensures.higher c.in-Some.ensures.limits lower c.raise_ceiling.ensures.roots c.raise_ceiling.ensures.keeps)

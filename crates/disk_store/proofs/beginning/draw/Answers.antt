@@ -4,14 +4,14 @@ use Rattle.line_store.specs.Shelves.{Shelf}
 use Rattle.line_store.specs.Calls.{IsDone, Fails}
 use Rattle.line_store.specs.declared.answers.Fault.TheVariants.{Bad}
 use Rattle.line_store.specs.Seats.{done_at, failed_at}
-use Rattle.line_store.specs.Sights.{Does, seat_or}
+use Rattle.line_store.specs.Sights.{seat_or}
 use Rattle.disk_store.specs.declared.member.Ceiling.TheVariants.{Raised}
 use Rattle.disk_store.specs.declared.member.Member.{Member}
 use Rattle.disk_store.specs.declared.held.Numbers.{Numbers}
 use Rattle.disk_store.specs.Memory.{StoreMemory, with_number}
 use Rattle.disk_store.specs.Numbers.{with_settled}
 use Rattle.disk_store.specs.Seats.{stand_at}
-use Rattle.disk_store.specs.Shown.{sight_of}
+use Rattle.disk_store.specs.Shown.{DoesOn}
 use Rattle.disk_store.proofs.Closing.{one-member}
 use Rattle.disk_store.proofs.Failing.{does-fail, does-failed}
 use Rattle.disk_store.proofs.Restored.{keeps-read}
@@ -38,7 +38,7 @@ returns-clause-comes g c =
     let comes = c.draw_number.ensures in
     let there = ap (λ (x : StoreMemory). slice_get x.members s) (sym settled) ∙ comes.1 in
     let same : comes.0 ≡ at.member = one-member held.members s comes.0 at.member there at.is in
-    subst (λ new. Does s (seat_or (stand_at held.members s) (done_at (stand_at held.members s))) (λ h k. IsDone s h k) (sight_of v held) (sight_of w new))
+    subst (λ new. DoesOn s (seat_or (stand_at held.members s) (done_at (stand_at held.members s))) (λ h k. IsDone s h k) v held w new)
     (sym (comes.2 ∙ ap (λ (x : StoreMemory). with_number s comes.0 x) settled ∙ ap (λ (x : Member). with_number s x (with_settled held)) same))
     (does-draw v w held s held.numbers.written at.member Raised at.is c.requires.member at.at (leads-read v w held c.settle.ensures.reads c.settle.ensures.keeps) (may-draw-kept v w held s at.member at.is at.at c.settle.ensures.reads c.in-Ok.ensures.stable))
 
@@ -56,8 +56,8 @@ returns-then-held-clause-comes g c =
     let settled : c.settle_ceiling.new.self ≡ with_settled held = c.settle_ceiling.ensures in
     let none = none-below held c.settle_ceiling.new.self c.held.inside.numbers (ap (λ (x : StoreMemory). x.numbers) c.held.view_is) settled c.if-held.true in
     let R = λ (h k : Shelf). Fails s (Bad c.root_file.result 0) h k in
-    subst (λ new. Does s (failed_at (stand_at held.members s)) R (sight_of v held) (sight_of w new)) (sym settled)
-    (does-failed held s at.member at.is (λ changes. cc) R (sight_of v held) (sight_of w (with_settled held)) (does-none v w held s at.member at.is at.at none R))
+    subst (λ new. DoesOn s (failed_at (stand_at held.members s)) R v held w new) (sym settled)
+    (does-failed held s at.member at.is (λ changes. cc) R v w held (with_settled held) (does-none v w held s at.member at.is at.at none R))
 
 pub returns-then-held-clause-kept : goal.returns-then-held-clause-kept
 returns-then-held-clause-kept g c file slot is h shown =

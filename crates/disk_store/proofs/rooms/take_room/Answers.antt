@@ -2,7 +2,6 @@ use Rattle.std.proofs.Common.{⊎_elim, refl, sym, ap, subst, ◌∙◌}
 use Rattle.rdb_types.specs.declared.keys.Limits.{Limits}
 use Rattle.line_store.specs.Shelves.{Shelf}
 use Rattle.line_store.specs.Rooms.{Takes}
-use Rattle.line_store.specs.Sights.{Does}
 use Rattle.member_rooms.specs.page_table.Pages.{Pages}
 use Rattle.member_rooms.specs.page_table.Scans.{IsNew}
 use Rattle.member_rooms.specs.Classes.{IsClassOf, HasNoOwned}
@@ -10,7 +9,7 @@ use Rattle.disk_store.specs.declared.held.Tables.{Tables}
 use Rattle.disk_store.specs.Grown.{Grow}
 use Rattle.disk_store.specs.Memory.{StoreMemory}
 use Rattle.disk_store.specs.Seats.{stand_at}
-use Rattle.disk_store.specs.Shown.{pages_of, TablesStand, Shown, sight_of}
+use Rattle.disk_store.specs.Shown.{DoesOn, pages_of, TablesStand, Shown}
 use Rattle.disk_store.proofs.Growing.{grow-same, grow-taken}
 use Rattle.disk_store.proofs.Tabled.{stand-as, stand-anew}
 use Rattle.disk_store.proofs.Taking.{stays, takes-again, takes-page}
@@ -45,7 +44,7 @@ returns-clause-taken g c is =
     (λ f. shown.space.pages.limit f ∙ ap (λ (l : Limits). l.pages) (shown.space.limits ∙ sym shown.limits))
     (subst (λ (ps : Pages). HasNoOwned ps c.args.key.area) c.table-2.ensures none))
     c.class_for-its.ensures in
-    subst (λ (x : StoreMemory). Does s (stand_at held.members s) (Takes c.args.key) (sight_of v held) (sight_of v x)) (sym c.take_page.ensures.1)
+    subst (λ (x : StoreMemory). DoesOn s (stand_at held.members s) (Takes c.args.key) v held v x) (sym c.take_page.ensures.1)
     (takes-page v held s file c.class_for-its.result c.args.key owner kept new takes stand)
 
 pub returns-clause-members : goal.returns-clause-members

@@ -1,10 +1,9 @@
 use Rattle.std.proofs.Common.{sym, subst}
 use Rattle.line_store.specs.Seats.{outside, IsReader}
 use Rattle.line_store.specs.Calls.{Moves}
-use Rattle.line_store.specs.Sights.{Does}
 use Rattle.disk_store.specs.declared.member.Member.{Member}
 use Rattle.disk_store.specs.Seats.{stand_of}
-use Rattle.disk_store.specs.Shown.{sight_of}
+use Rattle.disk_store.specs.Shown.{DoesOn}
 use Rattle.disk_store.proofs.EndedReading.{does-end-reading, kept-outside}
 use Rattle.disk_store.proofs.starts.leave_reading.Goals as goal
 
@@ -15,7 +14,7 @@ returns-clause-comes g c =
     let held = c.args.held.now in
     let comes = c.keep_start.ensures in
     let m : Member = comes.0 in
-    subst (λ new. Does s outside (Moves s outside) (sight_of v held) (sight_of v new)) (sym comes.2)
+    subst (λ new. DoesOn s outside (Moves s outside) v held v new) (sym comes.2)
     (does-end-reading v held s m comes.1 (subst (λ x. IsReader (stand_of x)) comes.1 c.requires.reader) _)
 
 pub returns-clause-outside : goal.returns-clause-outside

@@ -1,7 +1,6 @@
 use Rattle.std.proofs.Common.{◌≡◌, ◌+◌, ℕ, Bool, Ok, refl, sym, ap, subst, ◌∙◌, arith}
 use Rattle.line_store.specs.Seats.{outside}
 use Rattle.line_store.specs.Calls.{GoesOn, IsSaved}
-use Rattle.line_store.specs.Sights.{Does}
 use Rattle.store_endings.specs.disk_store.declared.member.Member.{Member}
 use Rattle.store_endings.specs.disk_store.declared.member.MemberStage.TheVariants as stage
 use Rattle.store_endings.specs.disk_store.declared.member.Recovery.TheVariants as recovery
@@ -9,7 +8,7 @@ use Rattle.store_endings.specs.disk_store.declared.held.Tables.{Tables}
 use Rattle.store_endings.specs.disk_store.Grown.{Grow}
 use Rattle.store_endings.specs.disk_store.Memory.{StoreMemory, with_member, at_stage}
 use Rattle.store_endings.specs.disk_store.Seats.{stand_at, steps_at, steps_of, steps_in}
-use Rattle.store_endings.specs.disk_store.Shown.{sight_of}
+use Rattle.store_endings.specs.disk_store.Shown.{DoesOn}
 use Rattle.store_endings.proofs.of_disk_store.Members.{set-here}
 use Rattle.store_endings.proofs.of_disk_store.Closing.{one-member}
 use Rattle.store_endings.proofs.of_disk_store.Failing.{does-fail}
@@ -54,7 +53,7 @@ returns-then-stands-clause-comes g c =
     let m : Member = comes.0 in
     let was = comes.1 in
     let its = awaited held s m c.args.commits c.keeps_commits.ensures c.requires.died was in
-    subst (λ new. Does s outside (λ h k. IsSaved s c.moment.result.number h k) (sight_of v held) (sight_of w new)) (sym comes.4)
+    subst (λ new. DoesOn s outside (λ h k. IsSaved s c.moment.result.number h k) v held w new) (sym comes.4)
     (does-save v w held s m was (its.at ∙ ap (λ (b : Bool). stage.Dead b recovery.Judging) its.commits_is)
     (both-read v u w c.settle.ensures.reads c.settle.ensures.keeps c.has_group.ensures.reads) (keeps-both v u w c.settle.ensures.reads c.settle.ensures.keeps c.has_group.ensures.reads)
     (stable-behind v u w c.settle.ensures.reads c.settle.ensures.keeps c.has_group.ensures.reads c.in-Ok.ensures.stable) (λ tells. g.met.D.Disk.content_left c.has_group.new.disk w.moment tells (omega arith)) c.sound.ensures comes.2 comes.3
@@ -73,7 +72,7 @@ returns-clause-comes g c =
     let was = comes.1 in
     let its = awaited held s m c.args.commits c.keeps_commits.ensures c.requires.died was in
     let left : c.member.result.now.journalled ≡ m.journalled = ap (λ (x : Member). x.journalled) (one-member held.members s c.member.result.now m c.member.ensures was) in
-    subst (λ new. Does s (stand_at held.members s) (λ h k. GoesOn s h k) (sight_of v held) (sight_of w new))
+    subst (λ new. DoesOn s (stand_at held.members s) (λ h k. GoesOn s h k) v held w new)
     (sym (comes.2 ∙ ap (λ (k : ℕ). with_member s (at_stage (stage.Dead c.args.commits (recovery.Undoing k)) m) held) left))
     (does-lose v w held s m c.args.commits was its.at
     (both-read v u w c.settle.ensures.reads c.settle.ensures.keeps c.has_group.ensures.reads) (keeps-both v u w c.settle.ensures.reads c.settle.ensures.keeps c.has_group.ensures.reads)

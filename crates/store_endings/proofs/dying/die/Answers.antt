@@ -1,11 +1,11 @@
 use Rattle.std.proofs.Common.{◌≡◌, sym, ap, subst, ◌∙◌, arith}
 use Rattle.line_store.specs.Seats.{IsAlive, died}
-use Rattle.line_store.specs.Sights.{Does, Dies}
+use Rattle.line_store.specs.Sights.{Dies}
 use Rattle.disk_store.specs.declared.member.Member.{Member}
 use Rattle.disk_store.specs.Dying.{dead_at, forgotten}
 use Rattle.disk_store.specs.Memory.{with_member, at_stage}
 use Rattle.disk_store.specs.Seats.{stand_of, stand_at}
-use Rattle.disk_store.specs.Shown.{sight_of}
+use Rattle.disk_store.specs.Shown.{DoesOn}
 use Rattle.disk_store.proofs.Closing.{one-member}
 use Rattle.store_endings.proofs.Deaths.{dies-forgotten, dies-kept}
 use Rattle.disk_store.specs.Commits.{is_free, is_flying, IsReady}
@@ -45,7 +45,7 @@ returns-then-forgets-clause-does g c =
     let was = c.member-member.ensures in
     let comes = c.forget.ensures in
     let same : comes.0 ≡ m = one-member held.members s comes.0 m comes.1 was in
-    subst (λ new. Does s (died (stand_at held.members s)) (Dies s) (sight_of v held) (sight_of v new))
+    subst (λ new. DoesOn s (died (stand_at held.members s)) (Dies s) v held v new)
     (sym (comes.2 ∙ ap (λ (x : Member). with_member s (forgotten c.dead-next.result x) held) same ∙ ap (λ st. with_member s (forgotten st m) held) c.dead-next.ensures))
     (dies-forgotten v held s m was (sym c.forgets.ensures ∙ c.if-forgets.true))
 
@@ -58,6 +58,6 @@ returns-else-forgets-clause-does g c =
     let was = c.member-member.ensures in
     let comes = c.set_dead.ensures.comes in
     let same : comes.0 ≡ m = one-member held.members s comes.0 m comes.1 was in
-    subst (λ new. Does s (died (stand_at held.members s)) (Dies s) (sight_of v held) (sight_of v new))
+    subst (λ new. DoesOn s (died (stand_at held.members s)) (Dies s) v held v new)
     (sym (comes.2 ∙ ap (λ (x : Member). with_member s (at_stage c.dead-next.result x) held) same ∙ ap (λ st. with_member s (at_stage st m) held) c.dead-next.ensures))
     (dies-kept v held s m was (λ tells. g.met.D.Disk.content_left c.args._disk.now v.moment tells (omega arith)) (sym c.forgets.ensures ∙ c.if-forgets.false) (subst (λ x. IsAlive (stand_of x)) was c.requires.alive))

@@ -1,13 +1,13 @@
 use Rattle.std.proofs.Common.{◌≡◌, refl, sym, subst, ap, ◌∙◌}
 use Rattle.line_store.specs.Calls.{IsDone}
 use Rattle.line_store.specs.Seats.{done_at}
-use Rattle.line_store.specs.Sights.{Does, seat_or}
+use Rattle.line_store.specs.Sights.{seat_or}
 use Rattle.disk_store.specs.declared.member.Member.{Member}
 use Rattle.disk_store.specs.declared.member.MemberStage.TheVariants as stage
 use Rattle.disk_store.specs.Dying.{forgotten}
 use Rattle.disk_store.specs.Memory.{StoreMemory, with_member}
 use Rattle.disk_store.specs.Seats.{stand_at}
-use Rattle.disk_store.specs.Shown.{sight_of}
+use Rattle.disk_store.specs.Shown.{DoesOn}
 use Rattle.disk_store.proofs.Failing.{does-fail}
 use Rattle.disk_store.proofs.Closing.{ended-at, ended-plain, ended-unchanging, ended-rests, keeps-it, does-close, one-member}
 use Rattle.store_endings.proofs.SlotsGiven.{does-give, forgotten-outside, no-slots, stands-outside}
@@ -39,11 +39,11 @@ returns-clause-comes g c =
     let comes = c.forget.ensures in
     let same : comes.0 ≡ at.member = one-member held.members s comes.0 at.member comes.1 at.is in
     let out = forgotten-outside held mid s comes.0 comes.1 comes.2 in
-    let closed : Does s there (λ h g. IsDone s h g) (sight_of v held) (sight_of w mid) =
-    subst (λ (x : StoreMemory). Does s there (λ h g. IsDone s h g) (sight_of v held) (sight_of w x))
+    let closed : DoesOn s there (λ h g. IsDone s h g) v held w mid =
+    subst (λ (x : StoreMemory). DoesOn s there (λ h g. IsDone s h g) v held w x)
     (sym (comes.2 ∙ ap (λ (x : Member). with_member s (forgotten stage.Outside x) held) same))
     (does-close v w held s at.member at.is at.ended c.close.ensures.writes c.close.ensures.keeps) in
-    done-still s there (sight_of v held) (sight_of w mid) (sight_of w behind) (stands-outside mid.members s out) (does-give w mid behind s out c.give_slots.ensures) closed
+    done-still s there v w w held mid behind (stands-outside mid.members s out) (does-give w mid behind s out c.give_slots.ensures) closed
 
 pub returns-clause-slots : goal.returns-clause-slots
 returns-clause-slots g c = no-slots c.forget.new.self c.give_slots.new.self c.args.s.number c.give_slots.ensures

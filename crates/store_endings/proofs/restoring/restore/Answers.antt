@@ -1,12 +1,11 @@
 use Rattle.std.proofs.Common.{◌≡◌, refl, sym, subst, ap, ◌∙◌, arith}
 use Rattle.line_store.specs.Calls.{GoesOn}
-use Rattle.line_store.specs.Sights.{Does}
 use Rattle.disk_store.specs.declared.member.Member.{Member}
 use Rattle.disk_store.specs.declared.member.MemberStage.TheVariants as stage
 use Rattle.disk_store.specs.declared.member.Recovery.TheVariants as recovery
 use Rattle.disk_store.specs.Memory.{StoreMemory, with_member, at_stage}
 use Rattle.disk_store.specs.Seats.{stand_at, steps_at, steps_of, steps_in}
-use Rattle.disk_store.specs.Shown.{sight_of}
+use Rattle.disk_store.specs.Shown.{DoesOn}
 use Rattle.disk_store.proofs.Members.{set-here}
 use Rattle.disk_store.proofs.Failing.{does-fail}
 use Rattle.disk_store.proofs.Closing.{one-member}
@@ -36,7 +35,7 @@ returns-clause-comes g c =
     let at = c.requires.died in
     let comes = c.set_dead.ensures.comes in
     let same : comes.0 ≡ at.member = one-member held.members s comes.0 at.member comes.1 at.is in
-    subst (λ new. Does s (stand_at held.members s) (λ h k. GoesOn s h k) (sight_of v held) (sight_of w new))
+    subst (λ new. DoesOn s (stand_at held.members s) (λ h k. GoesOn s h k) v held w new)
     (sym (comes.2 ∙ ap (λ (x : Member). with_member s (at_stage (stage.Dead c.args.commits recovery.Ending) x) held) same))
     (does-restore v w held s at.member c.args.commits at.is at.at c.settle.ensures.reads c.settle.ensures.keeps c.in-Ok.ensures.stable (λ tells. g.met.D.Disk.content_left c.settle.new.disk w.moment tells (omega arith)))
 

@@ -4,7 +4,6 @@ use Rattle.rdb_types.specs.declared.keys.Limits.{Limits}
 use Rattle.line_store.specs.Calls.{GoesOn, Fails}
 use Rattle.line_store.proofs.Causes.{cause-of}
 use Rattle.line_store.specs.Seats.{failed_at}
-use Rattle.line_store.specs.Sights.{Does}
 use Rattle.disk_seats.specs.Ledgers.{undoing, stands_as}
 use Rattle.disk_seats.specs.Members.{LedgerFacts}
 use Rattle.disk_store.specs.declared.member.Member.{Member}
@@ -15,7 +14,7 @@ use Rattle.disk_store.specs.Commits.{is_flying, IsReady}
 use Rattle.disk_store.specs.Dying.{undoing_with}
 use Rattle.disk_store.specs.Memory.{StoreMemory, with_member, at_stage}
 use Rattle.disk_store.specs.Seats.{stand_at, IsAtStage, steps_at, steps_of, steps_in, recovery_left}
-use Rattle.disk_store.specs.Shown.{sight_of}
+use Rattle.disk_store.specs.Shown.{DoesOn}
 use Rattle.disk_store.proofs.Members.{set-here}
 use Rattle.disk_store.proofs.DeadStages.{undoing-ready}
 use Rattle.disk_store.proofs.Closing.{one-member}
@@ -48,7 +47,7 @@ returns-then-left-eq0-clause-comes g c =
     let at = c.requires.died in
     let comes = c.set_dead.ensures.comes in
     let same : comes.0 ≡ at.member = one-member held.members s comes.0 at.member comes.1 at.is in
-    subst (λ new. Does s (stand_at held.members s) (λ h k. GoesOn s h k) (sight_of v held) (sight_of v new))
+    subst (λ new. DoesOn s (stand_at held.members s) (λ h k. GoesOn s h k) v held v new)
     (sym (comes.2 ∙ ap (λ (x : Member). with_member s (at_stage (stage.Dead c.args.commits recovery.Restoring) x) held) same))
     (does-none-left v held s at.member c.args.commits c.args.left at.is at.at c.if-left-eq0.true)
 
@@ -74,7 +73,7 @@ returns-in-Ok-clause-comes g c =
     let comes = c.set_dead-in-Ok.ensures.comes in
     let same : comes.0 ≡ at.member = one-member held.members s comes.0 at.member comes.1 at.is in
     let writes = c.undo.ensures.writes in
-    subst (λ new. Does s (stand_at held.members s) (λ h k. GoesOn s h k) (sight_of v held) (sight_of w new))
+    subst (λ new. DoesOn s (stand_at held.members s) (λ h k. GoesOn s h k) v held w new)
     (sym (comes.2 ∙ ap (λ (x : Member). with_member s (at_stage (stage.Dead c.args.commits c.undoing-recovery.result) x) held) same ∙ ap (λ (r : Recovery). with_member s (at_stage (stage.Dead c.args.commits r) at.member) held) c.undoing-recovery.ensures))
     (does-back v w held s at.member c.args.commits c.args.left c.in-Ok.rest (undoing_with c.in-Ok.rest) at.is at.at (λ ledger u. undone-with ledger s _ c.in-Ok.rest u) writes.0 writes.1 writes.2 writes.3
     (λ t ledger facts limits u.
@@ -110,9 +109,9 @@ returns-in-Err-clause-comes g c =
     let same : comes.0 ≡ at.member = one-member held.members s comes.0 at.member comes.1 at.is in
     let writes = c.undo.ensures.writes in
     let other : at.member.stage ≢ stage.Changing = λ changes. cc in
-    subst (λ new. Does s (failed_at (stand_at held.members s)) (λ h k. Fails s c.in-Err.fault h k) (sight_of v held) (sight_of w new))
+    subst (λ new. DoesOn s (failed_at (stand_at held.members s)) (λ h k. Fails s c.in-Err.fault h k) v held w new)
     (sym (comes.2 ∙ ap (λ (x : Member). with_member s (at_stage (stage.Dead c.args.commits (recovery.Undoing c.member-member.result.now.journalled)) x) held) same ∙ ap (λ (k : ℕ). with_member s (at_stage (stage.Dead c.args.commits (recovery.Undoing k)) at.member) held) all))
-    (does-failed held s at.member at.is other (λ h k. Fails s c.in-Err.fault h k) (sight_of v held) (sight_of w (with_member s (at_stage (stage.Dead c.args.commits (recovery.Undoing at.member.journalled)) at.member) held)) (does-back v w held s at.member c.args.commits c.args.left at.member.journalled (recovery.Undoing at.member.journalled) at.is at.at (λ ledger u. u) writes.0 writes.1 writes.2 writes.3
+    (does-failed held s at.member at.is other (λ h k. Fails s c.in-Err.fault h k) v w held (with_member s (at_stage (stage.Dead c.args.commits (recovery.Undoing at.member.journalled)) at.member) held) (does-back v w held s at.member c.args.commits c.args.left at.member.journalled (recovery.Undoing at.member.journalled) at.is at.at (λ ledger u. u) writes.0 writes.1 writes.2 writes.3
     (λ t ledger facts limits u.
     let tsn = ap (λ (x : Member). x.tsn) mine ∙ u.number in
     let pages = ap (λ (l : Limits). l.pages) (c.limits-limits.ensures ∙ sym limits) in

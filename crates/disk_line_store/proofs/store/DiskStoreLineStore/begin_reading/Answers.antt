@@ -1,4 +1,5 @@
-use Rattle.std.proofs.Common.{◌≡◌, [], refl}
+use Rattle.std.proofs.Common.{◌≡◌, [], refl, IsTrue, arith}
+use Rattle.rdb_outside.specs.Disk.{LeftNow}
 use Rattle.line_store.specs.Seats.{reading}
 use Rattle.line_store.specs.Calls.{Moves}
 use Rattle.change_steps.specs.disk_store.Seats.{stand_at}
@@ -17,7 +18,7 @@ invariant_of-self g c =
     let copies = c.args.self.now.copies in
     let none = none-outside v held copies c.args.self.now.readers s c.requires.outside in
     let behind = c.begin_reading-begun.new.held in
-    let beside : Beside s (sight_of v held) (sight_of v behind) = beside-either c.begin_reading-begun.result s (reading []) (stand_at held.members s) (λ h g. Moves s (reading h.now) h g) (λ h g. g ≡ h) (sight_of v held) (sight_of v behind) c.begin_reading-begun.ensures.ok c.begin_reading-begun.ensures.err in
+    let beside : Beside s (sight_of v held) (sight_of v behind) = beside-either c.begin_reading-begun.result s (reading []) (stand_at held.members s) (λ h g. Moves s (reading h.now) h g) (λ h g. g ≡ h) v v held behind c.begin_reading-begun.ensures.ok c.begin_reading-begun.ensures.err in
     record {
       few = c.steps_are_few.ensures.all held.members beside.steps c.args.self.now.few;
       readers = readers-beside v v held behind copies s none beside c.args.self.now.readers;
@@ -26,17 +27,19 @@ invariant_of-self g c =
 pub returns-clause-ok : goal.returns-clause-ok
 returns-clause-ok g c =
     let v = g.D.Disk.view c.args.self.now.disk in
+    let reads : IsTrue v.tells → LeftNow v v.content = λ tells. g.met.D.Disk.content_left c.args.self.now.disk v.moment tells (omega arith) in
     let s = c.args.s.number in
     let held = c.args.self.now.held in
     let copies = c.args.self.now.copies in
     let none = none-outside v held copies c.args.self.now.readers s c.requires.outside in
     let behind = c.begin_reading-begun.new.held in
-    on-ok c.begin_reading-begun.result (λ does. moved v v held behind copies s none (leaves-none v) (grow-same held.tables behind.tables c.begin_reading-begun.ensures.tables) (reading []) (λ h. reading h.now) refl (λ h. refl) does) c.begin_reading-begun.ensures.ok
+    on-ok c.begin_reading-begun.result (λ does. moved v v held behind copies s none (leaves-none v reads) (grow-same held.tables behind.tables c.begin_reading-begun.ensures.tables) (reading []) (λ h. reading h.now) refl (λ h. refl) does) c.begin_reading-begun.ensures.ok
 
 pub returns-clause-err : goal.returns-clause-err
 returns-clause-err g c =
     let v = g.D.Disk.view c.args.self.now.disk in
+    let reads : IsTrue v.tells → LeftNow v v.content = λ tells. g.met.D.Disk.content_left c.args.self.now.disk v.moment tells (omega arith) in
     let s = c.args.s.number in
     let held = c.args.self.now.held in
     let behind = c.begin_reading-begun.new.held in
-    on-err c.begin_reading-begun.result (λ stays. stays-any v held behind c.args.self.now.copies s (grow-same held.tables behind.tables c.begin_reading-begun.ensures.tables) stays) c.begin_reading-begun.ensures.err
+    on-err c.begin_reading-begun.result (λ stays. stays-any v held behind c.args.self.now.copies s reads (grow-same held.tables behind.tables c.begin_reading-begun.ensures.tables) stays) c.begin_reading-begun.ensures.err

@@ -1,5 +1,6 @@
 use Rattle.line_store.specs.Calls.{Changes}
-use Rattle.std.proofs.Common.{◌≡◌, [], refl}
+use Rattle.std.proofs.Common.{◌≡◌, [], refl, IsTrue, arith}
+use Rattle.rdb_outside.specs.Disk.{LeftNow}
 use Rattle.line_store.specs.Seats.{changing}
 use Rattle.change_steps.specs.disk_store.Seats.{stand_at}
 use Rattle.change_steps.specs.disk_store.Shown.{sight_of}
@@ -17,7 +18,7 @@ invariant_of-self g c =
     let copies = c.args.self.now.copies in
     let none = none-writing v held copies c.args.self.now.readers s c.requires.seat in
     let behind = c.change-changed.new.held in
-    let beside : Beside s (sight_of v held) (sight_of v behind) = beside-either c.change-changed.result s (changing []) (stand_at held.members s) (λ h g. Changes s c.args.writes.now h g) (λ h g. g ≡ h) (sight_of v held) (sight_of v behind) c.change-changed.ensures.ok c.change-changed.ensures.err in
+    let beside : Beside s (sight_of v held) (sight_of v behind) = beside-either c.change-changed.result s (changing []) (stand_at held.members s) (λ h g. Changes s c.args.writes.now h g) (λ h g. g ≡ h) v v held behind c.change-changed.ensures.ok c.change-changed.ensures.err in
     record {
       few = c.steps_are_few.ensures.all held.members beside.steps c.args.self.now.few;
       readers = readers-beside v v held behind copies s none beside c.args.self.now.readers;
@@ -26,20 +27,22 @@ invariant_of-self g c =
 pub returns-clause-ok : goal.returns-clause-ok
 returns-clause-ok g c =
     let v = g.D.Disk.view c.args.self.now.disk in
+    let reads : IsTrue v.tells → LeftNow v v.content = λ tells. g.met.D.Disk.content_left c.args.self.now.disk v.moment tells (omega arith) in
     let s = c.args.s.number in
     let held = c.args.self.now.held in
     let copies = c.args.self.now.copies in
     let none = none-writing v held copies c.args.self.now.readers s c.requires.seat in
     let behind = c.change-changed.new.held in
-    on-ok c.change-changed.result (λ does. changed v v held behind copies s none (leaves-none v) (grow-same held.tables behind.tables c.change-changed.ensures.tables) (changing []) c.args.writes.now refl does) c.change-changed.ensures.ok
+    on-ok c.change-changed.result (λ does. changed v v held behind copies s none (leaves-none v reads) (grow-same held.tables behind.tables c.change-changed.ensures.tables) (changing []) c.args.writes.now refl does) c.change-changed.ensures.ok
 
 pub returns-clause-err : goal.returns-clause-err
 returns-clause-err g c =
     let v = g.D.Disk.view c.args.self.now.disk in
+    let reads : IsTrue v.tells → LeftNow v v.content = λ tells. g.met.D.Disk.content_left c.args.self.now.disk v.moment tells (omega arith) in
     let s = c.args.s.number in
     let held = c.args.self.now.held in
     let behind = c.change-changed.new.held in
-    on-err c.change-changed.result (λ stays. stays-any v held behind c.args.self.now.copies s (grow-same held.tables behind.tables c.change-changed.ensures.tables) stays) c.change-changed.ensures.err
+    on-err c.change-changed.result (λ stays. stays-any v held behind c.args.self.now.copies s reads (grow-same held.tables behind.tables c.change-changed.ensures.tables) stays) c.change-changed.ensures.err
 
 pub returns-clause-cause : goal.returns-clause-cause
 returns-clause-cause g c =

@@ -1,4 +1,5 @@
-use Rattle.std.proofs.Common.{[], refl, ap}
+use Rattle.std.proofs.Common.{[], refl, ap, IsTrue, arith}
+use Rattle.rdb_outside.specs.Disk.{LeftNow}
 use Rattle.line_store.specs.Seats.{writing, given_back}
 use Rattle.line_store.specs.Calls.{Moves}
 use Rattle.change_steps.specs.disk_store.Shown.{sight_of}
@@ -18,7 +19,7 @@ invariant_of-self g c =
     let copies = c.args.self.now.copies in
     let none = none-prepared v held copies c.args.self.now.readers s c.requires.prepared in
     let behind = c.give_back.new.held in
-    let beside : Beside s (sight_of v held) (sight_of v behind) = beside-of s (writing []) (λ h g. Moves s (given_back (h.seat s)) h g) (sight_of v held) (sight_of v behind) c.give_back.ensures.does in
+    let beside : Beside s (sight_of v held) (sight_of v behind) = beside-of s (writing []) (λ h g. Moves s (given_back (h.seat s)) h g) v v held behind c.give_back.ensures.does in
     record {
       few = c.steps_are_few.ensures.all held.members beside.steps c.args.self.now.few;
       readers = readers-beside v v held behind copies s none beside c.args.self.now.readers;
@@ -27,9 +28,10 @@ invariant_of-self g c =
 pub returns : goal.returns
 returns g c =
     let v = g.D.Disk.view c.args.self.now.disk in
+    let reads : IsTrue v.tells → LeftNow v v.content = λ tells. g.met.D.Disk.content_left c.args.self.now.disk v.moment tells (omega arith) in
     let s = c.args.s.number in
     let held = c.args.self.now.held in
     let copies = c.args.self.now.copies in
     let none = none-prepared v held copies c.args.self.now.readers s c.requires.prepared in
     let behind = c.give_back.new.held in
-    record { does = moved v v held behind copies s none (leaves-none v) (grow-same held.tables behind.tables c.give_back.ensures.tables) (writing []) (λ h. given_back (h.seat s)) refl (λ h. ap given_back (seat-with (copied_by copies) h s none)) c.give_back.ensures.does }
+    record { does = moved v v held behind copies s none (leaves-none v reads) (grow-same held.tables behind.tables c.give_back.ensures.tables) (writing []) (λ h. given_back (h.seat s)) refl (λ h. ap given_back (seat-with (copied_by copies) h s none)) c.give_back.ensures.does }

@@ -1,5 +1,6 @@
 use Rattle.line_store.specs.Calls.{IsRead}
-use Rattle.std.proofs.Common.{refl, sym, subst}
+use Rattle.std.proofs.Common.{refl, sym, subst, IsTrue, arith}
+use Rattle.rdb_outside.specs.Disk.{LeftNow}
 use Rattle.line_view.specs.Knowledge.{Lines, IsInOrder, Agrees as AgreesWith}
 use Rattle.line_view.specs.Held.{knows}
 use Rattle.line_store.specs.Seats.{Seat, copied_at}
@@ -40,6 +41,7 @@ returns-clause-knows g c h shown =
 pub returns-clause-read : goal.returns-clause-read
 returns-clause-read g c =
     let v = g.D.Disk.view c.args.self.now.disk in
+    let reads : IsTrue v.tells → LeftNow v v.content = λ tells. g.met.D.Disk.content_left c.args.self.now.disk v.moment tells (omega arith) in
     let s = c.args.s.number in
     let held = c.args.self.now.held in
     let copies = c.args.self.now.copies in
@@ -47,4 +49,4 @@ returns-clause-read g c =
     let w = g.D.Disk.view c.learn_area.new.disk in
     let there = stand_at held.members s in
     subst (λ (seat : Seat). Does s seat (λ h k. IsRead s h k c.learn_area.result) (copied_sight v held copies) (copied_sight w held copies)) (sym (stands-plain v held copies c.args.self.now.readers s none))
-    (looked v w held held copies s none (leaves-reads v w c.learn_area.ensures.only_reads) (grow-same held.tables held.tables refl) there c.learn_area.result (begun-same (copied_at there)) c.learn_area.ensures.read)
+    (looked v w held held copies s none (leaves-reads v w reads c.learn_area.ensures.only_reads) (grow-same held.tables held.tables refl) there c.learn_area.result (begun-same (copied_at there)) c.learn_area.ensures.read)

@@ -1,4 +1,5 @@
-use Rattle.std.proofs.Common.{◌≡◌, [], refl, ap}
+use Rattle.std.proofs.Common.{◌≡◌, [], refl, ap, IsTrue, arith}
+use Rattle.rdb_outside.specs.Disk.{LeftNow}
 use Rattle.line_store.specs.Seats.{prepared, prepared_by}
 use Rattle.line_store.specs.Calls.{Moves}
 use Rattle.change_steps.specs.disk_store.Seats.{stand_at}
@@ -19,7 +20,7 @@ invariant_of-self g c =
     let copies = c.args.self.now.copies in
     let none = none-writing v held copies c.args.self.now.readers s c.requires.writing in
     let behind = c.prepare-prepared.new.held in
-    let beside : Beside s (sight_of v held) (sight_of v behind) = beside-either c.prepare-prepared.result s (prepared []) (stand_at held.members s) (λ h g. Moves s (prepared_by (h.seat s)) h g) (λ h g. g ≡ h) (sight_of v held) (sight_of v behind) c.prepare-prepared.ensures.ok c.prepare-prepared.ensures.err in
+    let beside : Beside s (sight_of v held) (sight_of v behind) = beside-either c.prepare-prepared.result s (prepared []) (stand_at held.members s) (λ h g. Moves s (prepared_by (h.seat s)) h g) (λ h g. g ≡ h) v v held behind c.prepare-prepared.ensures.ok c.prepare-prepared.ensures.err in
     record {
       few = c.steps_are_few.ensures.all held.members beside.steps c.args.self.now.few;
       readers = readers-beside v v held behind copies s none beside c.args.self.now.readers;
@@ -28,20 +29,22 @@ invariant_of-self g c =
 pub returns-clause-ok : goal.returns-clause-ok
 returns-clause-ok g c =
     let v = g.D.Disk.view c.args.self.now.disk in
+    let reads : IsTrue v.tells → LeftNow v v.content = λ tells. g.met.D.Disk.content_left c.args.self.now.disk v.moment tells (omega arith) in
     let s = c.args.s.number in
     let held = c.args.self.now.held in
     let copies = c.args.self.now.copies in
     let none = none-writing v held copies c.args.self.now.readers s c.requires.writing in
     let behind = c.prepare-prepared.new.held in
-    on-ok c.prepare-prepared.result (λ does. moved v v held behind copies s none (leaves-none v) (grow-same held.tables behind.tables c.prepare-prepared.ensures.tables) (prepared []) (λ h. prepared_by (h.seat s)) refl (λ h. ap prepared_by (seat-with (copied_by copies) h s none)) does) c.prepare-prepared.ensures.ok
+    on-ok c.prepare-prepared.result (λ does. moved v v held behind copies s none (leaves-none v reads) (grow-same held.tables behind.tables c.prepare-prepared.ensures.tables) (prepared []) (λ h. prepared_by (h.seat s)) refl (λ h. ap prepared_by (seat-with (copied_by copies) h s none)) does) c.prepare-prepared.ensures.ok
 
 pub returns-clause-err : goal.returns-clause-err
 returns-clause-err g c =
     let v = g.D.Disk.view c.args.self.now.disk in
+    let reads : IsTrue v.tells → LeftNow v v.content = λ tells. g.met.D.Disk.content_left c.args.self.now.disk v.moment tells (omega arith) in
     let s = c.args.s.number in
     let held = c.args.self.now.held in
     let behind = c.prepare-prepared.new.held in
-    on-err c.prepare-prepared.result (λ stays. stays-any v held behind c.args.self.now.copies s (grow-same held.tables behind.tables c.prepare-prepared.ensures.tables) stays) c.prepare-prepared.ensures.err
+    on-err c.prepare-prepared.result (λ stays. stays-any v held behind c.args.self.now.copies s reads (grow-same held.tables behind.tables c.prepare-prepared.ensures.tables) stays) c.prepare-prepared.ensures.err
 
 pub returns-clause-cause : goal.returns-clause-cause
 returns-clause-cause g c =

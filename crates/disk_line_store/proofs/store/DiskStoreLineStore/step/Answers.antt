@@ -1,4 +1,5 @@
-use Rattle.std.proofs.Common.{◌≡◌, None, sym, ap, subst, ◌∙◌}
+use Rattle.std.proofs.Common.{◌≡◌, None, sym, ap, subst, ◌∙◌, IsTrue, arith}
+use Rattle.rdb_outside.specs.Disk.{LeftNow}
 use Rattle.line_store.specs.Seats.{Seat}
 use Rattle.line_store.specs.Sights.{Does, Steps, stepped_to}
 use Rattle.line_store.proofs.Begun.{step-begins}
@@ -33,7 +34,7 @@ invariant_of-self-2 g c =
     let behind = c.step-stepped.new.held in
     let copies = c.args.self.now.copies in
     let none : copied_by copies s ≡ None = sym c.of.ensures.is ∙ none-of c.of.result (sym c.is_some.ensures ∙ c.if-is_some.false) in
-    let beside : Beside s (sight_of v held) (sight_of w behind) = beside-of s (stepped_to (stand_at held.members s) c.step-stepped.result) (Steps s c.step-stepped.result) (sight_of v held) (sight_of w behind) c.step-stepped.ensures.comes in
+    let beside : Beside s (sight_of v held) (sight_of w behind) = beside-of s (stepped_to (stand_at held.members s) c.step-stepped.result) (Steps s c.step-stepped.result) v w held behind c.step-stepped.ensures.comes in
     record {
       few = c.steps_are_few.ensures.all held.members beside.steps c.args.self.now.few;
       readers = readers-beside v w held behind copies s none beside c.args.self.now.readers;
@@ -42,6 +43,7 @@ invariant_of-self-2 g c =
 pub returns-clause-comes : goal.returns-clause-comes
 returns-clause-comes g c =
     let v = g.D.Disk.view c.args.self.now.disk in
+    let reads : IsTrue v.tells → LeftNow v v.content = λ tells. g.met.D.Disk.content_left c.args.self.now.disk v.moment tells (omega arith) in
     let w = g.D.Disk.view c.step-stepped.new.disk in
     let s = c.args.s.number in
     let held = c.args.self.now.held in
@@ -50,4 +52,4 @@ returns-clause-comes g c =
     let result = c.step-stepped.result in
     let none : copied_by copies s ≡ None = sym c.of.ensures.is ∙ none-of c.of.result (sym c.is_some.ensures ∙ c.if-is_some.false) in
     subst (λ (seat : Seat). Does s (stepped_to seat result) (Steps s result) (copied_sight v held copies) (copied_sight w behind copies)) (sym (stands-plain v held copies c.args.self.now.readers s none))
-    (stepped v w held behind copies s none (leaves-own v w c.step-stepped.ensures.writes) c.step-stepped.ensures.grows (stepped_to (stand_at held.members s) result) result (step-begins (stand_at held.members s) result) c.step-stepped.ensures.comes)
+    (stepped v w held behind copies s none (leaves-own v w reads c.step-stepped.ensures.writes) c.step-stepped.ensures.grows (stepped_to (stand_at held.members s) result) result (step-begins (stand_at held.members s) result) c.step-stepped.ensures.comes)

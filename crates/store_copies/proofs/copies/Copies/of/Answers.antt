@@ -6,4 +6,4 @@ pub returns-clause-ready : goal.returns-clause-ready
 returns-clause-ready c =
     let last = c.requires.last in
     let long = c.self.invariant.0 in
-    ready-got c.self.inside.sessions c.args.s.number (omega (arith, last, long)) c.self.invariant.2
+    ready-got c.self.inside.sessions c.args.s.number (omega (arith, last, long)) c.self.invariant.3

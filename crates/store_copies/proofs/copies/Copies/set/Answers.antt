@@ -10,7 +10,8 @@ invariant_of-self c =
     let long = c.self.invariant.0 in (
       set-long c.self.inside.sessions c.args.s.number c.args.copying ∙ long,
       c.self.invariant.1,
-      ready-set c.self.inside.sessions c.args.s.number c.args.copying (omega (arith, last, long)) c.requires.ready c.self.invariant.2,
+      c.self.invariant.2,
+      ready-set c.self.inside.sessions c.args.s.number c.args.copying (omega (arith, last, long)) c.requires.ready c.self.invariant.3,
     )
 
 pub returns-clause-copied : goal.returns-clause-copied
