@@ -8,7 +8,7 @@ use Rattle.rdb_types.specs.declared.keys.Dbkey.{Dbkey}
 use Rattle.line_opening.specs.stable_lines.Slots.{Undo}
 use Rattle.line_opening.specs.stable_lines.Progress.{Open, Flight, Progress, flying, fallen}
 use Rattle.line_opening.specs.line_moves.Contents.{IsFree}
-use Rattle.line_opening.proofs.of_stable_lines.Turns.{some_same}
+use Rattle.stable_lines.proofs.Turns.{some_same}
 use Rattle.line_seat.specs.declared.commit.CommitStage.{CommitStage}
 use Rattle.line_seat.specs.declared.commit.CommitStage.TheVariants.{Changing, Imaging, Gathering, Sealing, Landing, Committed}
 use Rattle.line_seat.specs.Groups.{group_of}

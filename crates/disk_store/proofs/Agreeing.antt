@@ -8,7 +8,7 @@ use Rattle.line_view.specs.Knowledge.{Lines}
 use Rattle.line_store.specs.Seats.{Seat}
 use Rattle.line_store.specs.Sights.{bare, Agrees, MayBeOpened, Stands}
 use Rattle.member_rooms.specs.store_shows.Shows.{OpensTo}
-use Rattle.member_rooms.proofs.of_store_shows.Standing.{now_stands, pending-opens}
+use Rattle.store_shows.proofs.Standing.{now_stands, pending-opens}
 use Rattle.ledger_versions.specs.disk_seats.Ledgers.{Ledger}
 use Rattle.member_memory.specs.Memory.{writes_in}
 use Rattle.disk_store.specs.declared.member.Member.{Member}

@@ -7,8 +7,8 @@ use Rattle.line_moves.specs.stable_lines.Slots.{Undo}
 use Rattle.line_moves.specs.stable_lines.Journal.{has_group}
 use Rattle.line_moves.specs.stable_lines.Progress.{Open, Flight, Progress, set_going, begun, without, flying, landed, fallen, lines_with}
 use Rattle.line_moves.specs.stable_lines.Facts.{PendingContents, IsNotOpen}
-use Rattle.line_moves.proofs.of_stable_lines.Laying.{found_behind, grouped_behind}
-use Rattle.line_moves.proofs.of_stable_lines.Turns.{some_same, going_is, going_there}
+use Rattle.stable_lines.proofs.Laying.{found_behind, grouped_behind}
+use Rattle.stable_lines.proofs.Turns.{some_same, going_is, going_there}
 use Rattle.line_moves.specs.Contents.{IsFree}
 use Rattle.line_seat.specs.Seats.{BeforeFacts, SeatFacts, next_open, secured}
 

@@ -6,8 +6,8 @@ use Rattle.line_view.specs.Knowledge.{Lines}
 use Rattle.disk_seats.specs.stable_lines.Kept.{Kept}
 use Rattle.disk_seats.specs.stable_lines.Progress.{Progress, lines_with, journal_with}
 use Rattle.disk_seats.specs.stable_lines.Facts.{StandsAs, as_committed, with_former, with_flight}
-use Rattle.disk_seats.proofs.of_stable_lines.Stands.{stands}
-use Rattle.disk_seats.proofs.of_stable_lines.Turns.{some_same}
+use Rattle.stable_lines.proofs.Stands.{stands}
+use Rattle.stable_lines.proofs.Turns.{some_same}
 use Rattle.disk_seats.specs.Ledgers.{Ledger, progress_of}
 use Rattle.disk_seats.specs.Members.{LedgerFacts}
 use Rattle.disk_seats.proofs.Progresses.{shape_of, same_former}

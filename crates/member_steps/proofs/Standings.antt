@@ -9,7 +9,7 @@ use Rattle.line_versions.specs.Lines.{shown}
 use Rattle.disk_seats.specs.stable_lines.Slots.{ruj_file, file_of, slot_of, line_at}
 use Rattle.disk_seats.specs.stable_lines.Progress.{Open, Progress}
 use Rattle.disk_seats.specs.stable_lines.Facts.{IsNotOpen, IsChanged}
-use Rattle.disk_seats.proofs.of_stable_lines.Turns.{some_same}
+use Rattle.stable_lines.proofs.Turns.{some_same}
 use Rattle.disk_seats.specs.Ledgers.{Ledger, progress_of}
 use Rattle.disk_seats.specs.Members.{LedgerFacts}
 use Rattle.disk_seats.proofs.Progresses.{shape_of, same_going}
