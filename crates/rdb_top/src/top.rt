@@ -338,7 +338,8 @@ where
     ensures images { (given : GivenScripts) → command_for words.now ≡ Some (Command.Rdo given) → O.told → S.tells scripts.old ≡ true → (result.events ≡ [] → ⊥) →
         HoldsPrefix ⟦<ReservingStatements as Statements>⟧.stands (said_to (letting given.death O.opening) (word_of words.now) (scripts_of (S.left scripts.old) given.count)) (D.view result.disk) (map event_of result.events) }
     // An online backup that was answered as done counts as long as no backup of its number was begun since: each image that a crash
-    // might have left since then has it whole, of lines that stand for the tables that its reader saw.
+    // might have left since then has it whole, of lines that stand for the tables that its reader saw. With the groups laid over them
+    // that the image's journal has above the backup's last one, they give what the image stands for.
     ensures backups { (given : GivenScripts) → command_for words.now ≡ Some (Command.Rdo given) → O.told → S.tells scripts.old ≡ true → (result.events ≡ [] → ⊥) →
         HoldsBackups ⟦<ReservingStatements as Statements>⟧.stands (said_to (letting given.death O.opening) (word_of words.now) (scripts_of (S.left scripts.old) given.count)) (D.view result.disk) (map event_of result.events) }
     // Where every session that lived came to its end, for the tables of all commits.
