@@ -1,12 +1,12 @@
 // A store of lines on a disk, as sessions ask for it.
-ghost use Rattle.std.specs.Prelude.{◌≡◌, ◌↔◌, ◌<◌, ◌^◌, ℕ, None};
+ghost use Rattle.std.specs.Prelude.{◌≡◌, ◌<◌, ◌^◌, ℕ, None};
 ghost use Rattle.line_view.specs.Knowledge.{Lines};
 ghost use Rattle.line_store.specs.Seats.{outside};
 ghost use Rattle.line_store.specs.Shelves.{Shelf};
 ghost use Rattle.store_shows.specs.Shows.{Leaves};
 ghost use Rattle.change_steps.specs.disk_store.Seats.{stand_at, steps_at};
 ghost use Rattle.change_steps.specs.disk_store.Shown.{Shown};
-ghost use Rattle.store_copies.specs.Shown.{AreReaders};
+ghost use Rattle.store_copies.specs.Shown.{AllStand, AreReaders};
 ghost use Rattle.disk_line_store.specs.Back.{IsBack};
 
 use crate::stepping::step;
@@ -21,31 +21,39 @@ use line_view::{Known, Write};
 use rdb_outside::Disk;
 use rdb_types::{Dbkey, Moment, NoMemory, Session};
 use recovery_steps::{die, end_reading, roll_back};
-use store_copies::{Copies, begin_copy, copy_step};
+use std::marker::PhantomData;
+use store_copies::{Copies, FormerDisk, begin_copy, copy_step};
 
-/// A store of lines on a disk: the disk, and what is kept in memory beside it, of the database and of the backups that sessions copy. What is left to do for a session is a number that a loop can count to, and who copies reads.
+/// A store of lines on a disk, opened over the disk that its type names: the disk, and what is kept in memory beside it, of the database and of the backups that sessions copy. What is left to do for a session is a number that a loop can count to, and who copies reads.
 #[derive(Drop)]
-pub struct DiskStore<D: Disk + Drop> {
+pub struct DiskStore<O: FormerDisk, D: Disk + Drop> {
     disk: D,
     held: Held,
     copies: Copies,
+    of: PhantomData<O>,
     ghost few: { (s : ℕ) → steps_at held.members s < 2 ^ 64 },
     ghost readers: { AreReaders held copies },
 }
 
-impl<D: Disk + Drop> DiskStore<D> {
+impl<O: FormerDisk, D: Disk + Drop> DiskStore<O, D> {
     /// The store of an opened database, in which no session has a transaction.
-    pub fn new(disk: D, held: Held) -> DiskStore<D>
+    pub fn new(disk: D, held: Held) -> DiskStore<O, D>
         requires { (s : ℕ) → stand_at held.members s ≡ outside }
-        ensures outside { (s : ℕ) → (⟦<DiskStore<D> as LineStore>⟧.sight result).stand s ≡ outside }
+        ensures outside { (s : ℕ) → (⟦<DiskStore<O, D> as LineStore>⟧.sight result).stand s ≡ outside }
 
-        // It shows what the disk and the memory do, and a crash leaves what one of the disk may leave.
-        ensures shows { (h : Shelf) → (⟦<DiskStore<D> as LineStore>⟧.sight result).shows h ↔ Shown (D.view disk) held h }
-        ensures nobody { (n : ℕ) → (⟦<DiskStore<D> as LineStore>⟧.sight result).copier n ≡ None }
-        ensures left { (t : ℕ) (lines : Lines) → (⟦<DiskStore<D> as LineStore>⟧.sight result).left t lines → Leaves (D.view disk) t lines }
+        // It shows what the disk and the memory do, where each backup stands that stood in the former disk, and a crash leaves what one of the disk may leave.
+        ensures shows { (h : Shelf) (shown : Shown (D.view disk) held h) → AllStand O.former (D.view disk) shown.ledger.base → (⟦<DiskStore<O, D> as LineStore>⟧.sight result).shows h }
+        ensures plain { (h : Shelf) → (⟦<DiskStore<O, D> as LineStore>⟧.sight result).shows h → Shown (D.view disk) held h }
+        ensures nobody { (n : ℕ) → (⟦<DiskStore<O, D> as LineStore>⟧.sight result).copier n ≡ None }
+        ensures left { (t : ℕ) (lines : Lines) → (⟦<DiskStore<O, D> as LineStore>⟧.sight result).left t lines → Leaves (D.view disk) t lines }
     {
         let copies = Copies::new();
-        DiskStore { disk, held, copies }
+        DiskStore {
+            disk,
+            held,
+            copies,
+            of: PhantomData,
+        }
     }
 
     /// The disk, of which all calls are the store's.
@@ -55,17 +63,17 @@ impl<D: Disk + Drop> DiskStore<D> {
 
     /// The store ends, and its disk is free. What the store showed, it showed of this disk.
     pub fn into_disk(self) -> D
-        ensures { IsBack (⟦<DiskStore<D> as LineStore>⟧.sight self) (D.view result) }
+        ensures { IsBack O.former (⟦<DiskStore<O, D> as LineStore>⟧.sight self) (D.view result) }
     {
         self.disk
     }
 }
 
-impl<D: Disk + Drop> LineStore for DiskStore<D> {
+impl<O: FormerDisk, D: Disk + Drop> LineStore for DiskStore<O, D> {
     ghost use Rattle.store_copies.specs.Shown.{copied_sight};
     ghost use Rattle.store_copies.proofs.Sighted.{agreeing-with, counting-with, opening-with, standing-with};
 
-    ghost sight = { λ store. copied_sight (D.view store.disk) store.held store.copies };
+    ghost sight = { λ store. copied_sight O.former (D.view store.disk) store.held store.copies };
 
     ghost agrees = { λ store. agreeing-with (D.view store.disk) store.held store.copies };
 
@@ -90,7 +98,7 @@ impl<D: Disk + Drop> LineStore for DiskStore<D> {
 
     fn begin_copy(&mut self, s: Session, number: u32) -> Result<(), NoMemory> {
         let held = &mut self.held;
-        let begun = begin_copy(&self.disk, held, &mut self.copies, s, number);
+        let begun = begin_copy::<O, D>(&self.disk, held, &mut self.copies, s, number);
         steps_are_few(held, s);
         begun
     }
@@ -174,7 +182,7 @@ impl<D: Disk + Drop> LineStore for DiskStore<D> {
 
     fn step(&mut self, s: Session) -> Result<Stepped, Fault> {
         if self.copies.of(s).is_some() {
-            return copy_step(&mut self.disk, &self.held, &mut self.copies, s);
+            return copy_step::<O, D>(&mut self.disk, &self.held, &mut self.copies, s);
         }
         let held = &mut self.held;
         let stepped = step(&mut self.disk, held, s);

@@ -89,6 +89,12 @@ pub fn begin_members<D: Disk>(disk: &mut D, next_tsn: u64) -> Result<Root, Fault
     ensures others { IsTrue (D.view disk.old).tells → (file : File) (slot : ℕ)
         → (file ≡ root_named → ⊥)
         → (D.view disk.new).content file slot ≡ (D.view disk.old).content file slot }
+    ensures pending { IsTrue (D.view disk.old).tells → (file : File) (slot : ℕ) (bytes : List ℕ)
+        → (file ≡ root_named → ⊥)
+        → Pending (D.view disk.new) file slot bytes → Pending (D.view disk.old) file slot bytes }
+    ensures beside { IsTrue (D.view disk.old).tells → (file : File) → (file ≡ root_named → ⊥)
+        → LeavesOnly (D.view disk.old) (D.view disk.new)
+        (λ image. (slot : ℕ) → Pending (D.view disk.old) file slot (image file slot)) }
     ensures leaves { IsTrue (D.view disk.old).tells → (base : Progress)
         → Facts (Pending (D.view disk.old)) base → base.next_tsn ≡ next_tsn
         → LeavesOnly (D.view disk.old) (D.view disk.new) (StandsAs base) }

@@ -9,19 +9,22 @@ use Rattle.line_view.specs.Knowledge.{Lines, line_in}
 use Rattle.line_versions.specs.Lines.{storage_area}
 use Rattle.line_store.specs.Seats.{outside}
 use Rattle.line_store.specs.Shelves.{Shelf}
-use Rattle.line_store.specs.Sights.{Sight}
 use Rattle.stable_lines.specs.Journal.{Journal, slots_in, next_number, next_slot}
 use Rattle.database_opening.specs.Owners.{owner_said}
+use Rattle.disk_store.specs.Memory.{StoreMemory}
+use Rattle.disk_store.specs.Shown.{Shown}
 use Rattle.journal_anew.specs.Anew.{journal_in_use, StandsInUse}
 
 -- By an image, all pages of an area file are taken but those that may hold lines, are within the limit, and are nobody's by their space page.
 abbrev pub is_taken_in : Image → ℕ → ℕ → ℕ → Bool
 is_taken_in image limit file page = not (nat_le 1 page && nat_le page limit && not ((page - 1) % 200 == 0) && (owner_said image file page == 0))
 
--- A shelf is shown that has the lines for which the image stood. Nobody has a transaction, and no room is taken but what the image has, and the groups of the journal in use.
-pub record BeginsFrom (image : Image) (lines : Lines) (journal : Journal) (sight : Sight) : Type 0 where
+-- A shelf is shown that has the lines for which the image stood, behind the groups of the journal in use. Nobody has a transaction, and no room is taken but what the image has, and the groups of that journal.
+pub record BeginsFrom (image : Image) (lines : Lines) (journal : Journal) (v : View) (held : StoreMemory) : Type 0 where
   pub shelf : Shelf
-  pub shown : sight.shows shelf
+  pub shown : Shown v held shelf
+  pub base : shown.ledger.base.lines ≡ lines
+  pub groups : (root : Root) → IsRoot (image root_file 0) root → shown.ledger.base.journal ≡ journal_in_use root journal
   pub now : shelf.now ≡ lines
   pub seats : (s : ℕ) → shelf.seat s ≡ outside
   pub limits : (root : Root) → IsRoot (image root_file 0) root → shelf.space.limits ≡ root.limits

@@ -12,7 +12,8 @@ ghost use Rattle.stable_lines.specs.Journal.{Journal};
 ghost use Rattle.stable_lines.specs.Kept.{Kept};
 ghost use Rattle.line_moves.specs.Classes.{IsClassed};
 ghost use Rattle.disk_store.specs.Seats.{stand_at};
-ghost use Rattle.disk_store.specs.Shown.{sight_of};
+ghost use Rattle.database_opening.specs.Others.{IsOther, KeepsFile};
+ghost use Rattle.journal_anew.specs.Anew.{IsApart};
 ghost use Rattle.opened_store.specs.Opened.{AreUsedUp, BeginsFrom, IsLeft};
 
 use crate::tables::read_tables;
@@ -55,7 +56,7 @@ pub fn open<D: Disk>(alloc: Global, disk: &mut D) -> Result<Held, OpeningFault>
         → (classes : ℕ → ℕ) (lines : Lines) (journal : Journal)
         → Kept classes lines journal (D.view disk.old).content
         → (by_area : ℕ → ℕ) → IsClassed by_area (D.view disk.old).content
-        → BeginsFrom (D.view disk.old).content lines journal (sight_of (D.view disk.new) held)) }
+        → BeginsFrom (D.view disk.old).content lines journal (D.view disk.new) held) }
 
     // Whatever it answers, a crash at any moment of it leaves what one before might have left, or an image of these lines, before its journal is the one in use or behind that.
     ensures stands { IsTrue (D.view disk.old).tells
@@ -63,6 +64,10 @@ pub fn open<D: Disk>(alloc: Global, disk: &mut D) -> Result<Held, OpeningFault>
         → (kept : Kept classes lines journal (D.view disk.old).content)
         → LeavesOnly (D.view disk.old) (D.view disk.new)
         (IsLeft (D.view disk.old) classes lines journal kept.root) }
+
+    // Whatever it answers, backups and copies of the journal stay as they were, at every moment.
+    ensures beside { IsTrue (D.view disk.old).tells → (file : File) → IsOther file → IsApart file
+        → KeepsFile file (D.view disk.old) (D.view disk.new) }
 
     // A restored database is in use behind it: the root that reads give doesn't say any more that it is one.
     ensures used { IfOk result (λ held. IsTrue (D.view disk.old).tells → (root : Root)

@@ -3,13 +3,10 @@ use Rattle.std.specs.Prelude.{ℕ, ◌+◌, ◌<◌, ◌≤◌, ◌≡◌, ◌^�
 use Rattle.rdb_types.specs.declared.keys.Dbkey.{Dbkey}
 use Rattle.rdb_types.specs.declared.keys.Limits.{Limits}
 use Rattle.rdb_outside.specs.Disk.{View, Image}
-use Rattle.line_moves.specs.new_database.aij_journal.Header.{IsHeader}
-use Rattle.line_moves.specs.new_database.Maker.{aij_file}
 use Rattle.rdb_page.specs.Page.{IsClass}
 use Rattle.root_file.specs.Root.{AreLimits}
 use Rattle.line_view.specs.Knowledge.{Lines, IsInOrder, line_in}
 use Rattle.stable_lines.specs.Progress.{Progress}
-use Rattle.stable_lines.specs.Rolling.{Rolls}
 use Rattle.line_store.specs.Seats.{Seat, reading, copying}
 use Rattle.line_store.specs.Shelves.{Shelf}
 use Rattle.line_store.specs.Sights.{bare, Sight}
@@ -26,6 +23,7 @@ use Rattle.disk_store.specs.Memory.{StoreMemory}
 use Rattle.disk_store.specs.Seats.{stand_at, steps_at}
 use Rattle.disk_store.specs.Shown.{RollsTo, Shown}
 use Rattle.store_copies.specs.Memory.{CopiesMemory, copied_by, copier_in, is_done}
+use Rattle.store_copies.specs.Stood.{HasBackup, IsInUse, NumbersFromOne, RollsFrom, Stood}
 
 -- ---- seats
 
@@ -94,20 +92,30 @@ pub record IsRolling (v : View) (number : ℕ) (now : Progress) : Type 0 where
 abbrev pub AreRolling : View → CopiesMemory → Progress → Type 0
 AreRolling v copies now = (number : ℕ) → is_done copies number ≡ true → IsQuiet copies number × IsRolling v number now
 
+-- The backup goes on standing, and rolled forward it gives what is committed.
+pub record IsStanding (v : View) (number since : ℕ) (b : Stood) (now : Progress) : Type 0 where
+  pub has : HasBackup v number since b
+  pub rolls : RollsTo b.lines b.last_group now
+
+-- so does each that stood in the former disk, which was in use
+abbrev pub AllStand : (former v : View) → Progress → Type 0
+AllStand former v now = IsInUse former → (number since : ℕ) (b : Stood) → HasBackup former number since b → IsStanding v number since b now
+
+-- but for those of whose number a backup was begun
+abbrev pub AreStanding : (former v : View) → CopiesMemory → Progress → Type 0
+AreStanding former v copies now = IsInUse former → (number since : ℕ) (b : Stood) → HasBackup former number since b → copier_in copies number ≡ None → IsStanding v number since b now
+
 -- A shelf is shown, without what is copied, and each backup is as it was left.
-pub record ShownWith (v : View) (held : StoreMemory) (copies : CopiesMemory) (h : Shelf) : Type 0 where
+pub record ShownWith (former v : View) (held : StoreMemory) (copies : CopiesMemory) (h : Shelf) : Type 0 where
   pub plain : Shelf
   pub shown : Shown v held plain
   pub is : h ≡ with_copies (copied_by copies) plain
   pub goes_on : AreGoing v held.tables copies plain
   pub behind : AreBehind copies shown.ledger.base plain
   pub rolling : AreRolling v copies shown.ledger.base
+  pub standing : AreStanding former v copies shown.ledger.base
 
 -- ---- what a crash leaves
-
--- the header of the image's journal numbers its groups from 1 on
-abbrev pub NumbersFromOne : Image → Type 0
-NumbersFromOne image = (first : ℕ) → IsHeader (image aij_file 0) first → 1 ≤ first
 
 -- Each image that a crash since a moment might have left has the backup whole, of these lines, which fit its limits; and rolled forward over the image's journal they give what the image stands for.
 pub record IsBackedUp (v : View) (number since : ℕ) (lines : Lines) : Type 0 where
@@ -118,7 +126,7 @@ pub record IsBackedUp (v : View) (number since : ℕ) (lines : Lines) : Type 0 w
   pub ended : copying.backup.stage ≡ Ended
   pub is : IsCopying former classes lines v copying
   pub left : (image : Image) → v.left_since since image → HasCopied classes lines copying.backup image
-  pub rolls : (image : Image) → v.left_since since image → NumbersFromOne image → Rolls lines copying.backup.last_group image
+  pub rolls : (image : Image) → v.left_since since image → NumbersFromOne image → RollsFrom lines copying.backup.last_group image
   pub ordered : IsInOrder lines
   pub limited : AreLimits copying.backup.limits
   pub pages : FitOnPages classes copying.backup.limits.pages lines
@@ -129,10 +137,10 @@ pub record IsBacked (v : View) (copies : CopiesMemory) (number since : ℕ) (lin
   pub done : is_done copies number ≡ true
   pub quiet : IsQuiet copies number
 
--- what the store shows
-abbrev pub copied_sight : View → StoreMemory → CopiesMemory → Sight
-copied_sight v held copies = record {
-  shows = ShownWith v held copies;
+-- what the store shows, which was opened over the former disk
+abbrev pub copied_sight : (former v : View) → StoreMemory → CopiesMemory → Sight
+copied_sight former v held copies = record {
+  shows = ShownWith former v held copies;
   stand = λ s. seated (copied_by copies s) (stand_at held.members s);
   steps = λ s. steps_with (copied_by copies s) (steps_at held.members s);
   left = Leaves v;

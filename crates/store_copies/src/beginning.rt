@@ -7,7 +7,7 @@ ghost use Rattle.disk_store.specs.Seats.{IsAtStage, stand_at};
 ghost use Rattle.store_copies.specs.Memory.{copied_by};
 ghost use Rattle.store_copies.specs.Shown.{LeavesOthers, copied_sight};
 
-use crate::Copies;
+use crate::{Copies, FormerDisk};
 use backup_steps::Copying;
 use disk_store::{Held, begin_reading};
 use rdb_outside::Disk;
@@ -25,7 +25,7 @@ fn last_group(next: u64) -> u64
 }
 
 /// A session begins a read-only transaction, whose lines are copied into the backup of this number. The backup's last group is the one before the next. No device call.
-pub fn begin_copy<D: Disk>(
+pub fn begin_copy<O: FormerDisk, D: Disk>(
     disk: &D,
     held: &mut Held,
     copies: &mut Copies,
@@ -36,8 +36,8 @@ pub fn begin_copy<D: Disk>(
     requires outside { stand_at held.old.members s.number ≡ outside }
     requires none { copied_by copies.old s.number ≡ None }
     requires number { IsBackupNumber number }
-    ensures ok { OnOk result (Does s.number (copying number []) (BeginsCopying s.number number) (copied_sight (D.view disk.now) held.old copies.old) (copied_sight (D.view disk.now) held.new copies.new)) }
-    ensures err { OnErr result (Stays s.number (copied_sight (D.view disk.now) held.old copies.old) (copied_sight (D.view disk.now) held.new copies.new)) }
+    ensures ok { OnOk result (Does s.number (copying number []) (BeginsCopying s.number number) (copied_sight O.former (D.view disk.now) held.old copies.old) (copied_sight O.former (D.view disk.now) held.new copies.new)) }
+    ensures err { OnErr result (Stays s.number (copied_sight O.former (D.view disk.now) held.old copies.old) (copied_sight O.former (D.view disk.now) held.new copies.new)) }
     ensures reads { OnOk result (IsAtStage held.new.members s.number stage.Reading) }
     ensures leaves { LeavesOthers s.number held.old held.new }
     ensures others { (t : ℕ) → (t ≡ s.number → ⊥) → copied_by copies.new t ≡ copied_by copies.old t }

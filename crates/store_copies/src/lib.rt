@@ -3,10 +3,12 @@
 
 mod beginning;
 mod copies;
+mod former;
 mod next;
 mod steps;
 
 pub use beginning::begin_copy;
 pub use copies::Copies;
+pub use former::FormerDisk;
 pub use next::next_line_in;
 pub use steps::copy_step;

@@ -10,7 +10,7 @@ ghost use Rattle.disk_store.specs.Seats.{IsAtStage, stand_at};
 ghost use Rattle.store_copies.specs.Memory.{copied_by};
 ghost use Rattle.store_copies.specs.Shown.{copied_sight};
 
-use crate::{Copies, next_line_in};
+use crate::{Copies, FormerDisk, next_line_in};
 use backup_making::Stage;
 use backup_steps::{Copying, copy_next};
 use disk_store::Held;
@@ -30,7 +30,7 @@ fn has_ended(copying: &Copying) -> bool
 }
 
 /// A step of what a session copies: a line more is read and copied, or the backup goes on without one. One write or one barrier at most, and no memory. Where another session began a backup of its number meanwhile, it is done, without a device call. Behind a fault the step is made again.
-pub fn copy_step<D: Disk>(
+pub fn copy_step<O: FormerDisk, D: Disk>(
     disk: &mut D,
     held: &Held,
     copies: &mut Copies,
@@ -39,11 +39,11 @@ pub fn copy_step<D: Disk>(
     requires member { IsMember s.number }
     requires copies { (c : Copied) × (copied_by copies.old s.number ≡ Some c) }
     requires reads { IsAtStage held.now.members s.number stage.Reading }
-    ensures answers { MayAnswer ((copied_sight (D.view disk.old) held.now copies.old).stand s.number) result }
-    ensures comes { Does s.number (stepped_to ((copied_sight (D.view disk.old) held.now copies.old).stand s.number) result) (Steps s.number result)
-        (copied_sight (D.view disk.old) held.now copies.old) (copied_sight (D.view disk.new) held.now copies.new) }
-    ensures less { result ≡ Ok stepped.More → IsLess s.number (copied_sight (D.view disk.old) held.now copies.old) (copied_sight (D.view disk.new) held.now copies.new) }
-    ensures backed { result ≡ Ok stepped.Done → IsBackedBy s.number (copied_sight (D.view disk.old) held.now copies.old) (copied_sight (D.view disk.new) held.now copies.new) }
+    ensures answers { MayAnswer ((copied_sight O.former (D.view disk.old) held.now copies.old).stand s.number) result }
+    ensures comes { Does s.number (stepped_to ((copied_sight O.former (D.view disk.old) held.now copies.old).stand s.number) result) (Steps s.number result)
+        (copied_sight O.former (D.view disk.old) held.now copies.old) (copied_sight O.former (D.view disk.new) held.now copies.new) }
+    ensures less { result ≡ Ok stepped.More → IsLess s.number (copied_sight O.former (D.view disk.old) held.now copies.old) (copied_sight O.former (D.view disk.new) held.now copies.new) }
+    ensures backed { result ≡ Ok stepped.Done → IsBackedBy s.number (copied_sight O.former (D.view disk.old) held.now copies.old) (copied_sight O.former (D.view disk.new) held.now copies.new) }
     ensures others { (t : ℕ) → (t ≡ s.number → ⊥) → copied_by copies.new t ≡ copied_by copies.old t }
 {
     held.sound();
