@@ -10,7 +10,7 @@ use Rattle.rdb_account.specs.Backups.{Counted, backups}
 use Rattle.session_jobs.specs.Records.{Model}
 use Rattle.session_stands.specs.Backed.{IsBacked}
 use Rattle.line_drive.specs.line_cluster.Sound.{HasImages}
-use Rattle.line_runs.specs.Backups.{HoldsBackup, HoldsBackups, HoldsEarlier}
+use Rattle.line_runs.specs.Backups.{HoldsBackup, HoldsBackups, LeavesBackups}
 
 module _ (M : Model) (o : Opening) (former v : View) (events : List Event) (sight : Sight) (back : IsBack former sight v) (has : HasImages M o sight events) where
   holds : (number : ℕ) (c : Counted) → IsBacked M sight number c has.shelf.clock.time → HoldsBackup M v number c
@@ -22,5 +22,5 @@ module _ (M : Model) (o : Opening) (former v : View) (events : List Event) (sigh
   holds-backups number c is = holds number c (has.backups.each number c is)
 
   -- nobody began one of its number, so the store had it as it was
-  pub holds-earlier : HoldsEarlier o former v events
-  holds-earlier in_use number since b none was = back.standing has.shelf has.shown in_use number since b (has.backups.copiers number ∙ none) was
+  pub leaves-backups : LeavesBackups o former v events
+  leaves-backups in_use number since b none was = back.standing has.shelf has.shown in_use number since b (has.backups.copiers number ∙ none) was

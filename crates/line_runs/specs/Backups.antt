@@ -20,8 +20,8 @@ abbrev pub HoldsBackups : Model → Opening → View → List Event → Type 0
 HoldsBackups M o v events = (number : ℕ) (c : Counted) → (backups o events number).counted ≡ Some c → HoldsBackup M v number c
 
 -- Each backup that stood before, in a database in use, stands, but for those of whose number a session began one.
-abbrev pub HoldsEarlier : Opening → (before behind : View) → List Event → Type 0
-HoldsEarlier o before behind events =
+abbrev pub LeavesBackups : Opening → (before behind : View) → List Event → Type 0
+LeavesBackups o before behind events =
     IsInUse before → (number since : ℕ) (b : Stood) → (backups o events number).by ≡ None → HasBackup before number since b → HasBackup behind number since b
 
 -- What stands in the former disk stands in this one.

@@ -13,7 +13,7 @@ ghost use Rattle.line_drive.specs.line_cluster.Sound.{FollowsScripts, HasImages,
 ghost use Rattle.line_drive.specs.line_cluster.Turned.{HaveAllEnded};
 ghost use Rattle.line_drive.specs.Boards.{mortals_of};
 ghost use Rattle.line_drive.specs.Turns.{KeepsTurns};
-ghost use Rattle.line_runs.specs.Backups.{HoldsBackups, HoldsEarlier, IsFormer};
+ghost use Rattle.line_runs.specs.Backups.{HoldsBackups, LeavesBackups, IsFormer};
 ghost use Rattle.line_runs.specs.Openings.{HasNoNumbers, HasSpent, OpensWith};
 ghost use Rattle.line_runs.specs.Prefix.{GaveUp, HoldsPrefix, HoldsAll};
 
@@ -126,7 +126,7 @@ fn ended<B: FormerDisk, D: Disk + Drop>(ran: Ran<DiskStore<B, D>>) -> LineRun<D>
     ensures spent { ShowsSpent (⟦<DiskStore<B, D> as LineStore>⟧.sight ran.store) → HasSpent (D.view result.disk) }
     ensures images { (o : Opening) (events : List Event) → HasImages ⟦<ReservingStatements as Statements>⟧.stands o (⟦<DiskStore<B, D> as LineStore>⟧.sight ran.store) events → HoldsPrefix ⟦<ReservingStatements as Statements>⟧.stands o (D.view result.disk) events }
     ensures backups { (o : Opening) (events : List Event) → HasImages ⟦<ReservingStatements as Statements>⟧.stands o (⟦<DiskStore<B, D> as LineStore>⟧.sight ran.store) events → HoldsBackups ⟦<ReservingStatements as Statements>⟧.stands o (D.view result.disk) events }
-    ensures earlier { (o : Opening) (events : List Event) → HasImages ⟦<ReservingStatements as Statements>⟧.stands o (⟦<DiskStore<B, D> as LineStore>⟧.sight ran.store) events → HoldsEarlier o B.former (D.view result.disk) events }
+    ensures backups_before { (o : Opening) (events : List Event) → HasImages ⟦<ReservingStatements as Statements>⟧.stands o (⟦<DiskStore<B, D> as LineStore>⟧.sight ran.store) events → LeavesBackups o B.former (D.view result.disk) events }
     ensures left { (o : Opening) (events : List Event) → IsLeft ⟦<ReservingStatements as Statements>⟧.stands o (⟦<DiskStore<B, D> as LineStore>⟧.sight ran.store) events → ((s : ℕ) → bare ((⟦<DiskStore<B, D> as LineStore>⟧.sight ran.store).stand s) ≡ outside) → HoldsAll ⟦<ReservingStatements as Statements>⟧.stands o (D.view result.disk) events }
 {
     LineRun {
@@ -163,7 +163,7 @@ pub fn say_in_order<O: Origin + Naming + Send, B: FormerDisk + Send, D: Disk + D
     ensures order { O.told → result.is_whole ≡ true → KeepsTurns O.opening O.sessions order.now result.events }
     ensures images { O.told → result.fault ≡ None → HoldsPrefix ⟦<ReservingStatements as Statements>⟧.stands O.opening (D.view result.disk) (map event_of result.events) }
     ensures backups { O.told → result.fault ≡ None → HoldsBackups ⟦<ReservingStatements as Statements>⟧.stands O.opening (D.view result.disk) (map event_of result.events) }
-    ensures earlier { O.told → result.fault ≡ None → HoldsEarlier O.opening B.former (D.view result.disk) (map event_of result.events) }
+    ensures backups_before { O.told → result.fault ≡ None → LeavesBackups O.opening B.former (D.view result.disk) (map event_of result.events) }
     ensures left { O.told → result.is_whole ≡ true → HoldsAll ⟦<ReservingStatements as Statements>⟧.stands O.opening (D.view result.disk) (map event_of result.events) }
     ensures harmed { O.told → RoseBy (failures (map event_of result.events) result.halt) (D.view disk).faults (D.view result.disk).faults }
     ensures agrees { O.told → is_unsound result.halt ≡ false }
@@ -203,7 +203,7 @@ pub fn say_in_threads<
     ensures whole { O.told → result.is_whole ≡ true → HaveAllEnded O.opening O.sessions (map event_of result.events) }
     ensures images { O.told → result.fault ≡ None → HoldsPrefix ⟦<ReservingStatements as Statements>⟧.stands O.opening (D.view result.disk) (map event_of result.events) }
     ensures backups { O.told → result.fault ≡ None → HoldsBackups ⟦<ReservingStatements as Statements>⟧.stands O.opening (D.view result.disk) (map event_of result.events) }
-    ensures earlier { O.told → result.fault ≡ None → HoldsEarlier O.opening B.former (D.view result.disk) (map event_of result.events) }
+    ensures backups_before { O.told → result.fault ≡ None → LeavesBackups O.opening B.former (D.view result.disk) (map event_of result.events) }
     ensures left { O.told → result.is_whole ≡ true → HoldsAll ⟦<ReservingStatements as Statements>⟧.stands O.opening (D.view result.disk) (map event_of result.events) }
     ensures harmed { O.told → RoseBy (failures (map event_of result.events) result.halt) (D.view disk).faults (D.view result.disk).faults }
     ensures agrees { O.told → is_unsound result.halt ≡ false }
