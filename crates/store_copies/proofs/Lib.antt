@@ -8,10 +8,11 @@ pub mod Working
 pub mod CopySteps
 mod Committed
 mod OneBackup
-mod Rolled
+pub mod Rolled
 mod Few
 mod Fitted
 pub mod Begins
 pub mod Sighted
 pub mod Plain
+pub mod Standing
 mod SetCopies
