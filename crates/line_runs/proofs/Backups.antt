@@ -1,5 +1,5 @@
 -- The backups of an account, and those that stood before, of what the store over the disk had.
-use Rattle.std.proofs.Common.{◌≡◌, ◌≤◌, ℕ, List, Some, None, sym, subst, ◌∙◌}
+use Rattle.std.proofs.Common.{ℕ, List, sym, subst, ◌∙◌}
 use Rattle.rdb_outside.specs.Disk.{View}
 use Rattle.line_view.specs.Knowledge.{Lines}
 use Rattle.line_store.specs.Sights.{Sight}

@@ -1,5 +1,5 @@
 -- A backup that stood before the opening stands behind it, and rolled forward it gives what the store begins with.
-use Rattle.std.proofs.Common.{◌≡◌, ◌≤◌, ◌==◌, ◌⊎◌, ⊎_elim, inl, inr, ℕ, Bool, true, false, IsTrue, if◌then◌else◌, refl, sym, ap, subst, ◌∙◌, arith}
+use Rattle.std.proofs.Common.{◌≡◌, ◌≤◌, ◌<◌, ◌+◌, ◌==◌, ◌⊎◌, ⊎_elim, inl, inr, ℕ, Bool, true, false, IsTrue, if◌then◌else◌, refl, sym, ap, subst, ◌∙◌, arith}
 use Rattle.std.proofs.lemmas.Bool.{eqb-true}
 use Rattle.rdb_types.specs.declared.file.FileId.{FileId}
 use Rattle.rdb_types.specs.declared.file.FileKind.TheVariants.{Aij, Area, Backup, Root as OfRoot, Ruj}
@@ -19,7 +19,7 @@ use Rattle.opened_store.specs.disk_store.Memory.{StoreMemory}
 use Rattle.opened_store.specs.disk_store.Shown.{RollsTo}
 use Rattle.opened_store.specs.Opened.{BeginsFrom, IsLeft}
 use Rattle.disk_line_store.specs.store_copies.Shown.{AllStand, IsStanding}
-use Rattle.disk_line_store.specs.store_copies.Stood.{HasBackup, IsInUse, NumbersFromOne, RollsFrom, Stood}
+use Rattle.disk_line_store.specs.store_copies.Stood.{HasBackup, NumbersFromOne, RollsFrom, Stood}
 use Rattle.disk_line_store.proofs.of_store_copies.Rolled.{pending-rolls}
 use Rattle.line_runs.specs.Backups.{IsFormer}
 

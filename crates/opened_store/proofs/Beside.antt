@@ -3,7 +3,6 @@ use Rattle.std.proofs.Common.{◌≡◌, ℕ, IsTrue, List}
 use Rattle.rdb_types.specs.declared.file.FileId.{FileId}
 use Rattle.rdb_outside.specs.Disk.{View, Pending, LeavesOnly, OnlyReads}
 use Rattle.new_database.specs.Maker.{root_file}
-use Rattle.line_moves.proofs.Runs.{still_tells}
 use Rattle.database_opening.specs.Others.{KeepsFile}
 use Rattle.database_opening.proofs.Others.{file_on, file_read}
 
