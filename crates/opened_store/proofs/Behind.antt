@@ -38,7 +38,7 @@ use Rattle.committed_lines.proofs.Nowhere.{nowhere}
 use Rattle.disk_store.specs.declared.held.Tables.{Tables}
 use Rattle.disk_store.specs.Memory.{StoreMemory}
 use Rattle.disk_store.specs.Opening.{AreFresh, HasAllFree}
-use Rattle.disk_store.specs.Shown.{pages_of, Shown, sight_of}
+use Rattle.disk_store.specs.Shown.{pages_of, Shown}
 use Rattle.opened_store.specs.Tables.{AreTablesOf}
 use Rattle.opened_store.specs.Opened.{is_taken_in, BeginsFrom, LacksNumbers}
 use Rattle.opened_store.proofs.Free.{none-in-use}
@@ -127,7 +127,7 @@ module _ (old mid raised v : View) (t : IsTrue old.tells) (told : mid.tells ≡ 
   taken-before file page is = subst (λ (l : Limits). is_taken_in old.content l.pages file page ≡ true) (sym has.limits)
       (taken-there v.content old.content start.root.limits.pages (few-pages v left classes lines journal start raised.moment facts) held.tables tables-there said file page is)
 
-  is-shown : Shown v held (first_shelf v held lines)
+  abbrev is-shown : Shown v held (first_shelf v held lines)
   is-shown = first-shown v t_new left (stable_read raised v reads t_raised stable) classes lines journal start raised.moment facts held has by_area lie-there
 
   -- a line lies on a page that is its area's
@@ -155,10 +155,12 @@ module _ (old mid raised v : View) (t : IsTrue old.tells) (told : mid.tells ≡ 
   slots-in-use other is = subst (λ (r : Root). held.next.slot - 1 ≡ length (slots_in (journal_in_use r before))) (one_root (old.content root_file 0) root other is_root is)
       (let at : held.next.slot ≡ length (slots_in journal) + 1 = has.group.in_slot in omega (arith, at))
 
-  pub begins-from : BeginsFrom old.content lines before (sight_of v held)
+  pub begins-from : BeginsFrom old.content lines before v held
   begins-from = record {
     shelf = first_shelf v held lines;
     shown = is-shown;
+    base = refl;
+    groups = λ other is. ap (λ (r : Root). journal_in_use r before) (one_root (old.content root_file 0) root other is_root is);
     now = refl;
     seats = λ s. refl;
     limits = λ other is. has.limits ∙ limits ∙ ap (λ (r : Root). r.limits) (one_root (old.content root_file 0) root other is_root is);

@@ -236,7 +236,7 @@ module _ (v : View) (t : IsTrue v.tells) (left : LeftNow v v.content) (stable : 
   lines-shown : ShowsLines v ledger (first_shelf v held lines)
   lines-shown = record { now = refl; time = refl; faults = refl; flight = λ c is. let bad : None ≡ Some c = is in absurd (cc) }
 
-  pub first-shown : Shown v held (first_shelf v held lines)
+  abbrev pub first-shown : Shown v held (first_shelf v held lines)
   first-shown = record {
     tells = t;
     ledger = ledger;

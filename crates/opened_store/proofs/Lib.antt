@@ -7,5 +7,6 @@ pub mod First
 pub mod Behind
 pub mod InUse
 pub mod Moments
+mod Beside
 pub mod ThreeTables
 pub mod Snapless

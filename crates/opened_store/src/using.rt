@@ -12,8 +12,9 @@ ghost use Rattle.stable_lines.specs.Slots.{area_file as area_named};
 ghost use Rattle.stable_lines.specs.Journal.{Journal};
 ghost use Rattle.stable_lines.specs.Kept.{Kept};
 ghost use Rattle.line_moves.specs.Classes.{IsClassed};
+ghost use Rattle.database_opening.specs.Others.{IsOther, KeepsFile};
 ghost use Rattle.database_opening.specs.Start.{IsStart};
-ghost use Rattle.journal_anew.specs.Anew.{journal_in_use};
+ghost use Rattle.journal_anew.specs.Anew.{IsApart, journal_in_use};
 ghost use Rattle.opened_store.specs.Opened.{AreUsedUp, IsLeft};
 
 use database_opening::{StoreStart, open_database};
@@ -65,6 +66,10 @@ pub(crate) fn open_in_use<D: Disk>(disk: &mut D) -> Result<StoreStart, Fault>
     ensures spaces { IsTrue (D.view disk.old).tells → (file page : ℕ) → IsPage page → IsSpacePage page
         → (D.view disk.new).content (area_named file) (page - 1)
         ≡ (D.view disk.old).content (area_named file) (page - 1) }
+
+    // Whatever it answers, backups and copies of the journal stay as they were, at every moment.
+    ensures beside { IsTrue (D.view disk.old).tells → (file : File) → IsOther file → IsApart file
+        → KeepsFile file (D.view disk.old) (D.view disk.new) }
 {
     let start = open_database(disk)?;
     take_into_use(disk, start)

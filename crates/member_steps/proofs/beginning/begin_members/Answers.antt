@@ -1,9 +1,11 @@
-use Rattle.std.proofs.Common.{List, ℕ, sym, subst, arith}
+use Rattle.std.proofs.Common.{◌≡◌, List, ℕ, sym, subst, arith}
+use Rattle.rdb_outside.specs.Disk.{Image, IsPending, Pending}
+use Rattle.rdb_outside.specs.Moments.{weaker}
 use Rattle.root_file.specs.Root.{IsRoot}
 use Rattle.new_database.specs.Maker.{root_file}
 use Rattle.disk_seats.proofs.of_line_moves.Runs.{facts_read, still_tells}
 use Rattle.member_steps.proofs.Begun.{begun}
-use Rattle.member_steps.proofs.Raised.{others_written, left_written, others_settled, left_settled}
+use Rattle.member_steps.proofs.Raised.{others_written, pending_written, beside_written, left_written, others_settled, pending_settled, beside_settled, left_settled}
 use Rattle.disk_seats.proofs.of_line_opening.Standing.{read_stands}
 use Rattle.member_steps.proofs.beginning.begin_members.Goals as goal
 
@@ -85,3 +87,34 @@ pub returns-clause-stable : goal.returns-clause-stable
 returns-clause-stable g c = let v = g.D.Disk.view in λ t.
     let old = v c.args.disk.now in let mid = v c.next_root.new.disk in let put = v c.write_root.new.disk in
     c.in_ok-make_stable.ensures.stable (still_tells mid put c.write_root.ensures.writes.told (still_tells old mid c.next_root.ensures.reads.told t))
+
+pub returns-in_err-root-clause-pending : goal.returns-in_err-root-clause-pending
+returns-in_err-root-clause-pending g c = λ t file slot bytes other p. (c.next_root.ensures.reads.keeps t).pending file slot bytes p
+
+pub returns-in_err-root-clause-beside : goal.returns-in_err-root-clause-beside
+returns-in_err-root-clause-beside g c = let v = g.D.Disk.view in λ t file other.
+    weaker (v c.args.disk.now) (v c.next_root.new.disk) (IsPending (v c.args.disk.now)) (λ (image : Image). (slot : ℕ) → Pending (v c.args.disk.now) file slot (image file slot)) (λ image is slot. is file slot) (c.next_root.ensures.reads.leaves t)
+
+pub returns-in_err-write_root-clause-pending : goal.returns-in_err-write_root-clause-pending
+returns-in_err-write_root-clause-pending g c = let v = g.D.Disk.view in λ t.
+    pending_written (v c.args.disk.now) (v c.next_root.new.disk) (v c.write_root.new.disk) c.next_root.ensures.reads c.write_root.ensures.writes t
+
+pub returns-in_err-write_root-clause-beside : goal.returns-in_err-write_root-clause-beside
+returns-in_err-write_root-clause-beside g c = let v = g.D.Disk.view in λ t.
+    beside_written (v c.args.disk.now) (v c.next_root.new.disk) (v c.write_root.new.disk) c.next_root.ensures.reads c.write_root.ensures.writes t
+
+pub returns-in_err-make_stable-clause-pending : goal.returns-in_err-make_stable-clause-pending
+returns-in_err-make_stable-clause-pending g c = let v = g.D.Disk.view in λ t.
+    pending_settled (v c.args.disk.now) (v c.next_root.new.disk) (v c.write_root.new.disk) c.next_root.ensures.reads c.write_root.ensures.writes t (v c.make_stable.new.disk) c.make_stable.ensures.reads
+
+pub returns-in_err-make_stable-clause-beside : goal.returns-in_err-make_stable-clause-beside
+returns-in_err-make_stable-clause-beside g c = let v = g.D.Disk.view in λ t.
+    beside_settled (v c.args.disk.now) (v c.next_root.new.disk) (v c.write_root.new.disk) c.next_root.ensures.reads c.write_root.ensures.writes t (v c.make_stable.new.disk) c.make_stable.ensures.reads
+
+pub returns-clause-pending : goal.returns-clause-pending
+returns-clause-pending g c = let v = g.D.Disk.view in λ t.
+    pending_settled (v c.args.disk.now) (v c.next_root.new.disk) (v c.write_root.new.disk) c.next_root.ensures.reads c.write_root.ensures.writes t (v c.make_stable.new.disk) c.make_stable.ensures.reads
+
+pub returns-clause-beside : goal.returns-clause-beside
+returns-clause-beside g c = let v = g.D.Disk.view in λ t.
+    beside_settled (v c.args.disk.now) (v c.next_root.new.disk) (v c.write_root.new.disk) c.next_root.ensures.reads c.write_root.ensures.writes t (v c.make_stable.new.disk) c.make_stable.ensures.reads

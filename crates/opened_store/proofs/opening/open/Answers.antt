@@ -8,6 +8,7 @@ use Rattle.journal_anew.specs.Anew.{journal_in_use}
 use Rattle.disk_store.specs.declared.held.Numbers.{Numbers}
 use Rattle.opened_store.proofs.Fresh.{all-outside}
 use Rattle.opened_store.proofs.Behind.{lacks-numbers, whole-root, begins-from}
+use Rattle.opened_store.proofs.Beside.{kept-raised, kept-read}
 use Rattle.opened_store.proofs.Moments.{left-raised, left-read, all-pages}
 use Rattle.opened_store.proofs.opening.open.Goals as goal
 
@@ -127,3 +128,30 @@ returns-in-Ok-clause-used g c = let v = g.D.Disk.view in let old = v c.args.disk
     let told_on = still_tells mid raised c.begin_members.ensures.told told in
     whole-root (raised.content root_file 0) c.in_ok-root.root root (c.in_ok-root.ensures.stands told) c.in_ok-root.ensures.state
     (subst (λ (b : List ℕ). IsRoot b root) ((c.read_tables.ensures.reads.keeps told_on).content root_file 0) is)
+
+pub returns-in_err-root-clause-beside : goal.returns-in_err-root-clause-beside
+returns-in_err-root-clause-beside g c = let v = g.D.Disk.view in let old = v c.args.disk.now in let mid = v c.open_in_use.new.disk in
+    λ t file other apart.
+    let told = still_tells old mid c.open_in_use.ensures.told t in
+    kept-raised file apart.root old mid (v c.begin_members.new.disk) (c.open_in_use.ensures.beside t file other apart) (c.begin_members.ensures.others told) (c.begin_members.ensures.pending told) (c.begin_members.ensures.beside told)
+
+pub returns-in_err-tables-clause-beside : goal.returns-in_err-tables-clause-beside
+returns-in_err-tables-clause-beside g c = let v = g.D.Disk.view in let old = v c.args.disk.now in let mid = v c.open_in_use.new.disk in let raised = v c.begin_members.new.disk in
+    λ t file other apart.
+    let told = still_tells old mid c.open_in_use.ensures.told t in
+    kept-read file apart.root old mid raised (c.open_in_use.ensures.beside t file other apart) (c.begin_members.ensures.others told) (c.begin_members.ensures.pending told) (c.begin_members.ensures.beside told)
+    (v c.read_tables.new.disk) c.read_tables.ensures.reads (still_tells mid raised c.begin_members.ensures.told told)
+
+pub returns-in-Ok-clause-beside : goal.returns-in-Ok-clause-beside
+returns-in-Ok-clause-beside g c = let v = g.D.Disk.view in let old = v c.args.disk.now in let mid = v c.open_in_use.new.disk in let raised = v c.begin_members.new.disk in
+    λ t file other apart.
+    let told = still_tells old mid c.open_in_use.ensures.told t in
+    kept-read file apart.root old mid raised (c.open_in_use.ensures.beside t file other apart) (c.begin_members.ensures.others told) (c.begin_members.ensures.pending told) (c.begin_members.ensures.beside told)
+    (v c.read_tables.new.disk) c.read_tables.ensures.reads (still_tells mid raised c.begin_members.ensures.told told)
+
+pub returns-in-Err-clause-beside : goal.returns-in-Err-clause-beside
+returns-in-Err-clause-beside g c = let v = g.D.Disk.view in let old = v c.args.disk.now in let mid = v c.open_in_use.new.disk in let raised = v c.begin_members.new.disk in
+    λ t file other apart.
+    let told = still_tells old mid c.open_in_use.ensures.told t in
+    kept-read file apart.root old mid raised (c.open_in_use.ensures.beside t file other apart) (c.begin_members.ensures.others told) (c.begin_members.ensures.pending told) (c.begin_members.ensures.beside told)
+    (v c.read_tables.new.disk) c.read_tables.ensures.reads (still_tells mid raised c.begin_members.ensures.told told)

@@ -7,6 +7,7 @@ use Rattle.new_database.specs.Maker.{root_file}
 use Rattle.stable_lines.specs.Slots.{area_file}
 use Rattle.line_moves.proofs.Runs.{still_tells}
 use Rattle.line_opening.proofs.Counted.{if_ok}
+use Rattle.database_opening.proofs.Others.{file_on}
 use Rattle.opened_store.proofs.InUse.{if_both, spent, same_limits, same_number, same_root, begins_kept, using_leaves, opening_leaves, area_apart, classes_in_use}
 use Rattle.opened_store.proofs.using.open_in_use.Goals as goal
 
@@ -76,3 +77,10 @@ pub returns-clause-spaces : goal.returns-clause-spaces
 returns-clause-spaces g c = let v = g.D.Disk.view in let old = v c.args.disk.now in let mid = v c.open_database.new.disk in
     λ t file page is space.
     (c.take_into_use.ensures.others (area_file file) (area_apart file) (still_tells old mid c.open_database.ensures.told t)).content (page - 1) ∙ (c.open_database.ensures.untouched t).spaces file page is space
+
+pub returns-in_err-start-clause-beside : goal.returns-in_err-start-clause-beside
+returns-in_err-start-clause-beside g c = λ t file other apart. c.open_database.ensures.others t file other
+
+pub returns-clause-beside : goal.returns-clause-beside
+returns-clause-beside g c = let v = g.D.Disk.view in let old = v c.args.disk.now in let mid = v c.open_database.new.disk in
+    λ t file other apart. file_on old mid (v c.take_into_use.new.disk) file (c.open_database.ensures.others t file other) (c.take_into_use.ensures.others file apart (still_tells old mid c.open_database.ensures.told t))
