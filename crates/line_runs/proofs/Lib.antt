@@ -1,4 +1,5 @@
 mod Backups
+mod Earlier
 mod Later
 mod Opening
 mod Prefix

@@ -9,7 +9,7 @@ use Rattle.root_file.specs.declared.Root.{Root}
 use Rattle.line_view.specs.Knowledge.{Lines}
 use Rattle.stable_lines.specs.Journal.{Journal}
 use Rattle.journal_anew.specs.Anew.{journal_in_use}
-use Rattle.opened_store.specs.Opened.{BeginsFrom, IsLeft as IsAsLeft}
+use Rattle.opened_store.specs.Opened.{IsLeft as IsAsLeft}
 use Rattle.member_steps.specs.Standing.{HasLines}
 use Rattle.store_shows.specs.Shows.{Leaves}
 use Rattle.store_shows.proofs.Standing.{may_stand}
@@ -33,29 +33,29 @@ leaves-now : (v : View) (held : StoreMemory) (h : Shelf) → Shown v held h → 
 leaves-now v held h shown image lines left has = record { image = image; left = subst (λ (t : ℕ). v.left_since t image) (sym shown.lines.time) left; stands = has }
 
 -- the time and the faults of a shelf that the store showed are the disk's
-pub same-time : (v : View) (sight : Sight) (back : IsBack sight v) (h : Shelf) → sight.shows h → h.clock.time ≡ v.moment
+pub same-time : {former : View} (v : View) (sight : Sight) (back : IsBack former sight v) (h : Shelf) → sight.shows h → h.clock.time ≡ v.moment
 same-time v sight back h shown = let it : ShownBack v back.held h = back.shows h shown in ap (λ (clock : Clock). clock.time) (sym it.clock) ∙ it.shown.lines.time
 
-same-faults : (v : View) (sight : Sight) (back : IsBack sight v) (h : Shelf) → sight.shows h → h.clock.faults ≡ v.faults
+same-faults : {former : View} (v : View) (sight : Sight) (back : IsBack former sight v) (h : Shelf) → sight.shows h → h.clock.faults ≡ v.faults
 same-faults v sight back h shown = let it : ShownBack v back.held h = back.shows h shown in ap (λ (clock : Clock). clock.faults) (sym it.clock) ∙ it.shown.lines.faults
 
 -- the faults that the store counted are the disk's
-pub harmed : (v : View) (sight : Sight) → IsBack sight v → (faults more : ℕ) → CountsFaults faults more sight → RoseBy more faults v.faults
+pub harmed : {former : View} (v : View) (sight : Sight) → IsBack former sight v → (faults more : ℕ) → CountsFaults faults more sight → RoseBy more faults v.faults
 harmed v sight back faults more k = subst (λ (n : ℕ). RoseBy more faults n) (same-faults v sight back k.shelf k.shown) k.rose
 
 -- it counted them as it opened
-pub no-fewer : (M : Model) (o : Opening) (v : View) (sight : Sight) → IsBack sight v → (faults : ℕ) (word : List ℕ) → IsOpenedBy M o faults word sight → faults ≤ v.faults
+pub no-fewer : {former : View} (M : Model) (o : Opening) (v : View) (sight : Sight) → IsBack former sight v → (faults : ℕ) (word : List ℕ) → IsOpenedBy M o faults word sight → faults ≤ v.faults
 no-fewer M o v sight back faults word is = subst (λ (n : ℕ). faults ≤ n) (same-faults v sight back is.shelf is.shown) is.no_fewer
 
 -- the numbers that it had used up, its root has
-pub spent-root : (v : View) (sight : Sight) → IsBack sight v → ShowsSpent sight → HasSpent v
+pub spent-root : {former : View} (v : View) (sight : Sight) → IsBack former sight v → ShowsSpent sight → HasSpent v
 spent-root v sight back k content root p is =
     let it : ShownBack v back.held k.shelf = back.shows k.shelf k.shown in
     let below = it.shown.numbers.ceiling.pending content root p is in
     let promised : k.shelf.clock.promised ≡ back.held.numbers.ceiling = ap (λ (clock : Clock). clock.promised) (sym it.clock) ∙ it.shown.promised in
     omega (arith, k.spent, promised, below)
 
-module _ (M : Model) (o : Opening) (v : View) (events : List Event) (sight : Sight) (back : IsBack sight v) where
+module _ {former : View} (M : Model) (o : Opening) (v : View) (events : List Event) (sight : Sight) (back : IsBack former sight v) where
   pub holds-prefix : HasImages M o sight events → HoldsPrefix M o v events
   holds-prefix has = record {
     tells = (back.shows has.shelf has.shown).shown.tells;
@@ -103,7 +103,7 @@ module _ (M : Model) (o : Opening) (v : View) (lines : Lines) (journal : Journal
   pub gave-up-within : (new : View) (classes : ℕ → ℕ) (root : Root) → LeavesOnly v new (IsAsLeft v classes lines journal root) → GaveUp M o v new
   gave-up-within new classes root leaves = inl (weaker v new (IsAsLeft v classes lines journal root) (λ image. IsPending v image ⊎ StandsFor M o.tables image) (has-stood classes root) leaves)
 
-  pub gave-up-behind : (new : View) (image : Image) (sight : Sight) → IsBack sight new → BeginsFrom image lines journal sight → ((s : ℕ) → sight.stand s ≡ outside) → GaveUp M o v new
-  gave-up-behind new image sight back begins idle = inr (holds-all M o new [] sight back
-      (record { shelf = begins.shelf; shown = begins.shown; stands = subst (λ (x : Lines). M x o.tables) (sym begins.now) stands })
+  pub gave-up-behind : {former : View} (new : View) (sight : Sight) → IsBack former sight new → (h : Shelf) → sight.shows h → h.now ≡ lines → ((s : ℕ) → sight.stand s ≡ outside) → GaveUp M o v new
+  gave-up-behind new sight back h shown now idle = inr (holds-all M o new [] sight back
+      (record { shelf = h; shown = shown; stands = subst (λ (x : Lines). M x o.tables) (sym now) stands })
       (λ s. ap bare (idle s)))

@@ -1,38 +1,30 @@
--- The online backups of an account, in what a crash leaves.
-use Rattle.std.specs.Prelude.{ℕ, ◌≤◌, ◌≡◌, List, Some}
-use Rattle.rdb_outside.specs.Disk.{Image, View}
-use Rattle.line_view.specs.Knowledge.{Lines}
-use Rattle.stable_lines.specs.Rolling.{Rolls}
-use Rattle.disk_line_store.specs.store_copies.Shown.{NumbersFromOne}
-use Rattle.backup_file.specs.declared.header.BackupHead.{BackupHead}
-use Rattle.backup_file.specs.declared.line.BackupLine.{BackupLine}
-use Rattle.backup_file.specs.Whole.{lines_in}
-use Rattle.partial_backup.specs.Partial.{HaveClasses}
-use Rattle.backup_reading.specs.Reading.{IsBackupOf}
+-- The backups of a database, while sessions of an account work in it.
+use Rattle.std.specs.Prelude.{ℕ, ◌≤◌, ◌≡◌, List, Some, None}
+use Rattle.rdb_outside.specs.Disk.{View}
+use Rattle.disk_line_store.specs.store_copies.Stood.{HasBackup, IsInUse, Stood}
 use Rattle.rdb_account.specs.Events.{Event}
 use Rattle.rdb_account.specs.Places.{Opening}
 use Rattle.rdb_account.specs.Backups.{Counted, backups}
 use Rattle.session_jobs.specs.Records.{Model}
 
--- The image has a whole backup of this number, of these lines, each with the class of its logical area. Rolled forward over the groups that the image's journal has behind it, it gives what the image stands for.
-pub record HasWholeBackup (classes : ℕ → ℕ) (lines : Lines) (number : ℕ) (image : Image) : Type 0 where
-  pub head : BackupHead
-  pub copies : List BackupLine
-  pub is : IsBackupOf image number head copies
-  pub has : lines_in copies ≡ lines
-  pub class : HaveClasses classes copies
-  pub rolls : NumbersFromOne image → Rolls lines head.last_group image
-
--- Each image that a crash since a moment might have left, which isn't behind that of the reader's end, has the backup whole, of lines that stand for the tables that the reader saw.
+-- Each image that a crash since a moment might have left, which isn't behind that of the reader's end, has the backup whole, of lines that stand for the tables that the reader saw; and rolled forward it gives what the image stands for.
 pub record HoldsBackup (M : Model) (v : View) (number : ℕ) (c : Counted) : Type 0 where
-  pub classes : ℕ → ℕ
-  pub lines : Lines
-  pub stands : M lines c.tables
+  pub backup : Stood
+  pub stands : M backup.lines c.tables
   pub since : ℕ
   pub by : since ≤ c.moment
-  pub past : since ≤ v.moment
-  pub left : (image : Image) → v.left_since since image → HasWholeBackup classes lines number image
+  pub has : HasBackup v number since backup
 
 -- so it is with each online backup that counts
 abbrev pub HoldsBackups : Model → Opening → View → List Event → Type 0
 HoldsBackups M o v events = (number : ℕ) (c : Counted) → (backups o events number).counted ≡ Some c → HoldsBackup M v number c
+
+-- Each backup that stood before, in a database in use, stands, but for those of whose number a session began one.
+abbrev pub LeavesBackups : Opening → (before behind : View) → List Event → Type 0
+LeavesBackups o before behind events =
+    IsInUse before → (number since : ℕ) (b : Stood) → (backups o events number).by ≡ None → HasBackup before number since b → HasBackup behind number since b
+
+-- What stands in the former disk stands in this one.
+pub record IsFormer (former v : View) : Type 0 where
+  pub in_use : IsInUse former → IsInUse v
+  pub stood : (number since : ℕ) (b : Stood) → HasBackup former number since b → HasBackup v number since b

@@ -19,7 +19,7 @@ use session_jobs::Statements;
 /// Behind the opening of a database a shelf is shown as an account opens, for tables for which the lines of the image stand, and an account that has the limits, the taken pages and the groups of the image.
 pub fn a_run_opens<D: Disk, S: Statements>(disk: &D, held: &Held)
     ensures { (image : Image) (lines : Lines) (journal : Journal) (word : List ℕ) (o : Opening) (faults : ℕ)
-        → BeginsFrom image lines journal (sight_of (D.view disk.now) held.now)
+        → BeginsFrom image lines journal (D.view disk.now) held.now
         → IsOpeningOf image journal (D.view disk.now).moment o
         → o.word ≡ word
         → S.stands lines o.tables

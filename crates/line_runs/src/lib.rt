@@ -4,6 +4,7 @@
 mod laws;
 mod runs;
 
+pub use disk_line_store::FormerDisk;
 pub use laws::{a_run_leaves_what_opens, a_run_opens};
 pub use line_drive::{Halt, Origin};
 pub use opened_store::a_new_database_opens;

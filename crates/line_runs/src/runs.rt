@@ -13,12 +13,11 @@ ghost use Rattle.line_drive.specs.line_cluster.Sound.{FollowsScripts, HasImages,
 ghost use Rattle.line_drive.specs.line_cluster.Turned.{HaveAllEnded};
 ghost use Rattle.line_drive.specs.Boards.{mortals_of};
 ghost use Rattle.line_drive.specs.Turns.{KeepsTurns};
-ghost use Rattle.line_runs.specs.Backups.{HoldsBackups};
+ghost use Rattle.line_runs.specs.Backups.{HoldsBackups, LeavesBackups, IsFormer};
 ghost use Rattle.line_runs.specs.Openings.{HasNoNumbers, HasSpent, OpensWith};
 ghost use Rattle.line_runs.specs.Prefix.{GaveUp, HoldsPrefix, HoldsAll};
 
-use crate::laws::a_run_opens;
-use disk_line_store::DiskStore;
+use disk_line_store::{DiskStore, FormerDisk};
 use lent_values::{Naming, Opened};
 use line_drive::{Halt, LineCluster, Origin, Ran, run_in_order, run_in_threads};
 use line_opening::OpeningFault;
@@ -62,14 +61,14 @@ pub struct LineRun<D: Drop> {
 }
 
 /// The sessions over an opened database.
-type Sessions<O, D> = LineCluster<O, ReservingStatements, DiskStore<D>>;
+type Sessions<O, B, D> = LineCluster<O, ReservingStatements, DiskStore<B, D>>;
 
 // Opens a database, before which a session of each script stands.
-fn begin<O: Origin + Naming, D: Disk + Drop>(
+fn begin<O: Origin + Naming, B: FormerDisk, D: Disk + Drop>(
     alloc: Global,
     disk: D,
     said: Said,
-) -> Result<Sessions<O, D>, Unopened<D>>
+) -> Result<Sessions<O, B, D>, Unopened<D>>
     requires desk { said.desk ≡ O.book }
     requires sessions { length said.scripts.items ≡ O.sessions }
     requires few { O.sessions ≤ 16 }
@@ -79,6 +78,7 @@ fn begin<O: Origin + Naming, D: Disk + Drop>(
     requires word { said.word ≡ O.opening.word }
     requires opens { O.told → OpensWith ⟦<ReservingStatements as Statements>⟧.stands (D.view disk) O.opening }
     requires faults { O.told → O.faults ≡ (D.view disk).faults }
+    requires former { IsFormer B.former (D.view disk) }
     ensures events { IfOk result (λ c. c.events ≡ []) }
     ensures later { O.told → IfErr result (λ u. (D.view disk).faults ≤ (D.view u.disk).faults) }
     ensures failed { IfErr result (λ u. u.fault ≡ OpeningFault.Failed → Rose (D.view disk).faults (D.view u.disk).faults) }
@@ -90,8 +90,7 @@ fn begin<O: Origin + Naming, D: Disk + Drop>(
         Ok(held) => held,
         Err(fault) => return Err(Unopened { disk, fault }),
     };
-    a_run_opens::<D, ReservingStatements>(&disk, &held);
-    let store = DiskStore::new(disk, held);
+    let store = DiskStore::<B, D>::new(disk, held);
     match LineCluster::start(alloc, said.word, store, said.scripts, said.desk) {
         Ok(sessions) => Ok(sessions),
         Err(store) => Err(Unopened {
@@ -118,16 +117,17 @@ fn unsaid<D: Drop>(alloc: Global, unopened: Unopened<D>) -> LineRun<D>
     }
 }
 
-fn ended<D: Disk + Drop>(ran: Ran<DiskStore<D>>) -> LineRun<D>
+fn ended<B: FormerDisk, D: Disk + Drop>(ran: Ran<DiskStore<B, D>>) -> LineRun<D>
     ensures events { result.events ≡ ran.events }
     ensures is_whole { result.is_whole ≡ ran.is_whole }
     ensures fault { result.fault ≡ None }
     ensures halt { result.halt ≡ ran.halt }
-    ensures faults { (faults more : ℕ) → CountsFaults faults more (⟦<DiskStore<D> as LineStore>⟧.sight ran.store) → RoseBy more faults (D.view result.disk).faults }
-    ensures spent { ShowsSpent (⟦<DiskStore<D> as LineStore>⟧.sight ran.store) → HasSpent (D.view result.disk) }
-    ensures images { (o : Opening) (events : List Event) → HasImages ⟦<ReservingStatements as Statements>⟧.stands o (⟦<DiskStore<D> as LineStore>⟧.sight ran.store) events → HoldsPrefix ⟦<ReservingStatements as Statements>⟧.stands o (D.view result.disk) events }
-    ensures backups { (o : Opening) (events : List Event) → HasImages ⟦<ReservingStatements as Statements>⟧.stands o (⟦<DiskStore<D> as LineStore>⟧.sight ran.store) events → HoldsBackups ⟦<ReservingStatements as Statements>⟧.stands o (D.view result.disk) events }
-    ensures left { (o : Opening) (events : List Event) → IsLeft ⟦<ReservingStatements as Statements>⟧.stands o (⟦<DiskStore<D> as LineStore>⟧.sight ran.store) events → ((s : ℕ) → bare ((⟦<DiskStore<D> as LineStore>⟧.sight ran.store).stand s) ≡ outside) → HoldsAll ⟦<ReservingStatements as Statements>⟧.stands o (D.view result.disk) events }
+    ensures faults { (faults more : ℕ) → CountsFaults faults more (⟦<DiskStore<B, D> as LineStore>⟧.sight ran.store) → RoseBy more faults (D.view result.disk).faults }
+    ensures spent { ShowsSpent (⟦<DiskStore<B, D> as LineStore>⟧.sight ran.store) → HasSpent (D.view result.disk) }
+    ensures images { (o : Opening) (events : List Event) → HasImages ⟦<ReservingStatements as Statements>⟧.stands o (⟦<DiskStore<B, D> as LineStore>⟧.sight ran.store) events → HoldsPrefix ⟦<ReservingStatements as Statements>⟧.stands o (D.view result.disk) events }
+    ensures backups { (o : Opening) (events : List Event) → HasImages ⟦<ReservingStatements as Statements>⟧.stands o (⟦<DiskStore<B, D> as LineStore>⟧.sight ran.store) events → HoldsBackups ⟦<ReservingStatements as Statements>⟧.stands o (D.view result.disk) events }
+    ensures backups_before { (o : Opening) (events : List Event) → HasImages ⟦<ReservingStatements as Statements>⟧.stands o (⟦<DiskStore<B, D> as LineStore>⟧.sight ran.store) events → LeavesBackups o B.former (D.view result.disk) events }
+    ensures left { (o : Opening) (events : List Event) → IsLeft ⟦<ReservingStatements as Statements>⟧.stands o (⟦<DiskStore<B, D> as LineStore>⟧.sight ran.store) events → ((s : ℕ) → bare ((⟦<DiskStore<B, D> as LineStore>⟧.sight ran.store).stand s) ≡ outside) → HoldsAll ⟦<ReservingStatements as Statements>⟧.stands o (D.view result.disk) events }
 {
     LineRun {
         disk: ran.store.into_disk(),
@@ -139,7 +139,7 @@ fn ended<D: Disk + Drop>(ran: Ran<DiskStore<D>>) -> LineRun<D>
 }
 
 /// Opens a database, and says scripts to it by turns of their sessions, which the order names, and then in ascending order, again and again. The gate may have a session die.
-pub fn say_in_order<O: Origin + Naming + Send, D: Disk + Drop, G: Gate>(
+pub fn say_in_order<O: Origin + Naming + Send, B: FormerDisk + Send, D: Disk + Drop, G: Gate>(
     alloc: Global,
     disk: D,
     said: Said,
@@ -157,11 +157,13 @@ pub fn say_in_order<O: Origin + Naming + Send, D: Disk + Drop, G: Gate>(
     requires mortals { MayDie (G.mortals gate.now) (mortals_of O.opening O.sessions) }
     requires opens { O.told → OpensWith ⟦<ReservingStatements as Statements>⟧.stands (D.view disk) O.opening }
     requires faults { O.told → O.faults ≡ (D.view disk).faults }
+    requires former { IsFormer B.former (D.view disk) }
     ensures legal { O.told → IsLegal O.opening (map event_of result.events) }
     ensures whole { O.told → result.is_whole ≡ true → HaveAllEnded O.opening O.sessions (map event_of result.events) }
     ensures order { O.told → result.is_whole ≡ true → KeepsTurns O.opening O.sessions order.now result.events }
     ensures images { O.told → result.fault ≡ None → HoldsPrefix ⟦<ReservingStatements as Statements>⟧.stands O.opening (D.view result.disk) (map event_of result.events) }
     ensures backups { O.told → result.fault ≡ None → HoldsBackups ⟦<ReservingStatements as Statements>⟧.stands O.opening (D.view result.disk) (map event_of result.events) }
+    ensures backups_before { O.told → result.fault ≡ None → LeavesBackups O.opening B.former (D.view result.disk) (map event_of result.events) }
     ensures left { O.told → result.is_whole ≡ true → HoldsAll ⟦<ReservingStatements as Statements>⟧.stands O.opening (D.view result.disk) (map event_of result.events) }
     ensures harmed { O.told → RoseBy (failures (map event_of result.events) result.halt) (D.view disk).faults (D.view result.disk).faults }
     ensures agrees { O.told → is_unsound result.halt ≡ false }
@@ -172,7 +174,7 @@ pub fn say_in_order<O: Origin + Naming + Send, D: Disk + Drop, G: Gate>(
     ensures gave_up { O.told → (result.fault ≡ None → ⊥) → GaveUp ⟦<ReservingStatements as Statements>⟧.stands O.opening (D.view disk) (D.view result.disk) }
 {
     let sessions = said.scripts.len() as u32;
-    match begin::<O, D>(alloc, disk, said) {
+    match begin::<O, B, D>(alloc, disk, said) {
         Ok(cluster) => ended(run_in_order(cluster, sessions, order, gate)),
         Err(unopened) => unsaid(alloc, unopened),
     }
@@ -182,6 +184,7 @@ pub fn say_in_order<O: Origin + Naming + Send, D: Disk + Drop, G: Gate>(
 pub fn say_in_threads<
     R: Threads + Wait + Sync,
     O: Origin + Naming + Send,
+    B: FormerDisk + Send,
     D: Disk + Drop + Send,
     G: Gate + Sync,
 >(rt: &R, alloc: Global, disk: D, said: Said, gate: &G) -> LineRun<D>
@@ -195,10 +198,12 @@ pub fn say_in_threads<
     requires mortals { MayDie (G.mortals gate.now) (mortals_of O.opening O.sessions) }
     requires opens { O.told → OpensWith ⟦<ReservingStatements as Statements>⟧.stands (D.view disk) O.opening }
     requires faults { O.told → O.faults ≡ (D.view disk).faults }
+    requires former { IsFormer B.former (D.view disk) }
     ensures legal { O.told → IsLegal O.opening (map event_of result.events) }
     ensures whole { O.told → result.is_whole ≡ true → HaveAllEnded O.opening O.sessions (map event_of result.events) }
     ensures images { O.told → result.fault ≡ None → HoldsPrefix ⟦<ReservingStatements as Statements>⟧.stands O.opening (D.view result.disk) (map event_of result.events) }
     ensures backups { O.told → result.fault ≡ None → HoldsBackups ⟦<ReservingStatements as Statements>⟧.stands O.opening (D.view result.disk) (map event_of result.events) }
+    ensures backups_before { O.told → result.fault ≡ None → LeavesBackups O.opening B.former (D.view result.disk) (map event_of result.events) }
     ensures left { O.told → result.is_whole ≡ true → HoldsAll ⟦<ReservingStatements as Statements>⟧.stands O.opening (D.view result.disk) (map event_of result.events) }
     ensures harmed { O.told → RoseBy (failures (map event_of result.events) result.halt) (D.view disk).faults (D.view result.disk).faults }
     ensures agrees { O.told → is_unsound result.halt ≡ false }
@@ -209,7 +214,7 @@ pub fn say_in_threads<
     ensures gave_up { O.told → (result.fault ≡ None → ⊥) → GaveUp ⟦<ReservingStatements as Statements>⟧.stands O.opening (D.view disk) (D.view result.disk) }
 {
     let sessions = said.scripts.len() as u32;
-    match begin::<O, D>(alloc, disk, said) {
+    match begin::<O, B, D>(alloc, disk, said) {
         Ok(cluster) => ended(run_in_threads(rt, cluster, sessions, gate)),
         Err(unopened) => unsaid(alloc, unopened),
     }

@@ -5,7 +5,7 @@ use Rattle.rdb_account.specs.Events.{Event}
 use Rattle.rdb_account.specs.Places.{Opening}
 use Rattle.session_jobs.specs.Records.{Model}
 use Rattle.session_states.specs.declared.item_queue.WholeScript.{WholeScript}
-use Rattle.workload_runs.specs.line_runs.Backups.{HoldsBackups}
+use Rattle.workload_runs.specs.line_runs.Backups.{HoldsBackups, LeavesBackups}
 use Rattle.workload_runs.specs.line_runs.Openings.{OpensWith, said_to}
 use Rattle.workload_runs.specs.line_runs.Prefix.{HoldsAll, HoldsPrefix}
 use Rattle.command_words.specs.declared.deaths.Death.{Death}
@@ -56,3 +56,13 @@ module _ (M : Model) (v : View) (o : Opening) (events : List Event) where
 
   pub all-of-given : (word : List ℕ) (left : ℕ → List ℕ) (m n : Scripts) → m ≡ n → HoldsAll M (said_to (letting m.death o) word (scripts_of left m.count)) v events → HoldsAll M (said_to (letting n.death o) word (scripts_of left n.count)) v events
   all-of-given word left m n e h = subst (λ (x : Scripts). HoldsAll M (said_to (letting x.death o) word (scripts_of left x.count)) v events) e h
+
+module _ (before behind : View) (o : Opening) (events : List Event) where
+  pub before-of-word : (death : Option Death) (u w : List ℕ) (scripts : List WholeScript) → u ≡ w → LeavesBackups (said_to (letting death o) u scripts) before behind events → LeavesBackups (said_to (letting death o) w scripts) before behind events
+  before-of-word death u w scripts e h = subst (λ (x : List ℕ). LeavesBackups (said_to (letting death o) x scripts) before behind events) e h
+
+  pub before-of-scripts : (death : Option Death) (word : List ℕ) (a b : List WholeScript) → a ≡ b → LeavesBackups (said_to (letting death o) word a) before behind events → LeavesBackups (said_to (letting death o) word b) before behind events
+  before-of-scripts death word a b e h = subst (λ (x : List WholeScript). LeavesBackups (said_to (letting death o) word x) before behind events) e h
+
+  pub before-of-given : (word : List ℕ) (left : ℕ → List ℕ) (m n : Scripts) → m ≡ n → LeavesBackups (said_to (letting m.death o) word (scripts_of left m.count)) before behind events → LeavesBackups (said_to (letting n.death o) word (scripts_of left n.count)) before behind events
+  before-of-given word left m n e h = subst (λ (x : Scripts). LeavesBackups (said_to (letting x.death o) word (scripts_of left x.count)) before behind events) e h

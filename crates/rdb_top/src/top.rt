@@ -19,7 +19,7 @@ ghost use Rattle.workload_runs.specs.line_cluster.Sound.{FollowsScripts, MayFail
 ghost use Rattle.workload_runs.specs.line_cluster.Turned.{HaveAllEnded};
 ghost use Rattle.workload_runs.specs.line_drive.Boards.{mortals_of};
 ghost use Rattle.workload_runs.specs.line_drive.Turns.{KeepsTurns};
-ghost use Rattle.workload_runs.specs.line_runs.Backups.{HoldsBackups};
+ghost use Rattle.workload_runs.specs.line_runs.Backups.{HoldsBackups, IsFormer, LeavesBackups};
 ghost use Rattle.workload_runs.specs.line_runs.Openings.{HasNoNumbers, HasSpent, OpensWith, said_to};
 ghost use Rattle.workload_runs.specs.line_runs.Prefix.{HoldsAll, HoldsPrefix, StandsFor};
 ghost use Rattle.backup_making.specs.Making.{file_of as backup_named};
@@ -63,8 +63,8 @@ use std::sync::Wait;
 use std::thread::Threads;
 use watched_disk::{Beginning, WatchedDisk};
 use workload_runs::{
-    Halt, LineRun, Origin, ReservingStatements, Said, dump_command, page_command, say_in_order,
-    say_in_threads, verify_command,
+    FormerDisk, Halt, LineRun, Origin, ReservingStatements, Said, dump_command, page_command,
+    say_in_order, say_in_threads, verify_command,
 };
 
 /// The words of a command that says scripts.
@@ -95,7 +95,7 @@ fn status_of(stop: ReadStop) -> u8
 fn run_of<
     R: Threads + Wait + Sync + AllocGlobal,
     O: Origin + Naming + Send,
-    B: Beginning + Send,
+    B: Beginning + FormerDisk + Send,
     D: Disk + Drop + Send,
     G: Gate + Sync,
 >(rt: &R, disk: D, said: Said, given: Scripts, order: &[u32], gate: &G) -> LineRun<D>
@@ -110,12 +110,14 @@ fn run_of<
     requires opens { O.told → OpensWith ⟦<ReservingStatements as Statements>⟧.stands (D.view disk) O.opening }
     requires faults { O.told → O.faults ≡ (D.view disk).faults }
     requires began { B.faults ≡ (D.view disk).faults }
+    requires former { IsFormer B.former (D.view disk) }
     requires desk { said.desk ≡ O.book }
     ensures legal { O.told → IsLegal O.opening (map event_of result.events) }
     ensures whole { O.told → result.is_whole ≡ true → HaveAllEnded O.opening O.sessions (map event_of result.events) }
     ensures order { given.has_order ≡ true → O.told → result.is_whole ≡ true → KeepsTurns O.opening O.sessions order.now result.events }
     ensures images { O.told → result.fault ≡ None → HoldsPrefix ⟦<ReservingStatements as Statements>⟧.stands O.opening (D.view result.disk) (map event_of result.events) }
     ensures backups { O.told → result.fault ≡ None → HoldsBackups ⟦<ReservingStatements as Statements>⟧.stands O.opening (D.view result.disk) (map event_of result.events) }
+    ensures backups_before { O.told → result.fault ≡ None → LeavesBackups O.opening B.former (D.view result.disk) (map event_of result.events) }
     ensures left { O.told → result.is_whole ≡ true → HoldsAll ⟦<ReservingStatements as Statements>⟧.stands O.opening (D.view result.disk) (map event_of result.events) }
     ensures harmed { O.told → RoseBy (failures (map event_of result.events) result.halt) (D.view disk).faults (D.view result.disk).faults }
     ensures stopped { result.halt ≡ Some (Halt.Device Fault.Failed) → Rose (D.view disk).faults (D.view result.disk).faults }
@@ -128,9 +130,9 @@ fn run_of<
     let alloc = rt.alloc();
     let disk = WatchedDisk::<B, D>::new(disk);
     if given.has_order {
-        unwatched(say_in_order::<O, WatchedDisk<B, D>, G>(alloc, disk, said, order, gate))
+        unwatched(say_in_order::<O, B, WatchedDisk<B, D>, G>(alloc, disk, said, order, gate))
     } else {
-        unwatched(say_in_threads::<R, O, WatchedDisk<B, D>, G>(rt, alloc, disk, said, gate))
+        unwatched(say_in_threads::<R, O, B, WatchedDisk<B, D>, G>(rt, alloc, disk, said, gate))
     }
 }
 
@@ -191,6 +193,7 @@ fn say_scripts<
         KeepsTurns (said_to (letting asked.entry.given.death O.opening) (word_of asked.entry.words.now) scripts.items) asked.entry.given.count (order_in asked.entry.words.now) result.events }
     ensures images { O.told → result.fault ≡ None → HoldsPrefix ⟦<ReservingStatements as Statements>⟧.stands (said_to (letting asked.entry.given.death O.opening) (word_of asked.entry.words.now) scripts.items) (D.view result.disk) (map event_of result.events) }
     ensures backups { O.told → result.fault ≡ None → HoldsBackups ⟦<ReservingStatements as Statements>⟧.stands (said_to (letting asked.entry.given.death O.opening) (word_of asked.entry.words.now) scripts.items) (D.view result.disk) (map event_of result.events) }
+    ensures backups_before { O.told → result.fault ≡ None → LeavesBackups (said_to (letting asked.entry.given.death O.opening) (word_of asked.entry.words.now) scripts.items) (D.view disk) (D.view result.disk) (map event_of result.events) }
     ensures left { O.told → result.is_whole ≡ true → HoldsAll ⟦<ReservingStatements as Statements>⟧.stands (said_to (letting asked.entry.given.death O.opening) (word_of asked.entry.words.now) scripts.items) (D.view result.disk) (map event_of result.events) }
     ensures harmed { O.told → RoseBy (failures (map event_of result.events) result.halt) (D.view disk).faults (D.view result.disk).faults }
     ensures stopped { result.halt ≡ Some (Halt.Device Fault.Failed) → Rose (D.view disk).faults (D.view result.disk).faults }
@@ -261,6 +264,8 @@ fn run_rdo<
         HoldsPrefix ⟦<ReservingStatements as Statements>⟧.stands (said_to (letting asked.entry.given.death O.opening) (word_of asked.entry.words.now) (scripts_of (S.left scripts.old) asked.entry.given.count)) (D.view result.disk) (map event_of result.events) }
     ensures backups { O.told → S.tells scripts.old ≡ true → (result.events ≡ [] → ⊥) →
         HoldsBackups ⟦<ReservingStatements as Statements>⟧.stands (said_to (letting asked.entry.given.death O.opening) (word_of asked.entry.words.now) (scripts_of (S.left scripts.old) asked.entry.given.count)) (D.view result.disk) (map event_of result.events) }
+    ensures backups_before { O.told → S.tells scripts.old ≡ true → (result.events ≡ [] → ⊥) →
+        LeavesBackups (said_to (letting asked.entry.given.death O.opening) (word_of asked.entry.words.now) (scripts_of (S.left scripts.old) asked.entry.given.count)) (D.view disk) (D.view result.disk) (map event_of result.events) }
     ensures left { O.told → S.tells scripts.old ≡ true → IsWhole result.status →
         HoldsAll ⟦<ReservingStatements as Statements>⟧.stands (said_to (letting asked.entry.given.death O.opening) (word_of asked.entry.words.now) (scripts_of (S.left scripts.old) asked.entry.given.count)) (D.view result.disk) (map event_of result.events) }
     ensures written { K.tells out.old ≡ true → IsWritten result.status → K.taken out.new ≡ K.taken out.old ++ transcripts asked.entry.given.count result.events }
@@ -339,9 +344,14 @@ where
         HoldsPrefix ⟦<ReservingStatements as Statements>⟧.stands (said_to (letting given.death O.opening) (word_of words.now) (scripts_of (S.left scripts.old) given.count)) (D.view result.disk) (map event_of result.events) }
     // An online backup that was answered as done counts as long as no backup of its number was begun since: each image that a crash
     // might have left since then has it whole, of lines that stand for the tables that its reader saw. With the groups laid over them
-    // that the image's journal has above the backup's last one, they give what the image stands for.
+    // that the image's journal has above the backup's last one, they give what the image stands for, where the journal's header
+    // numbers its groups from 1 on.
     ensures backups { (given : GivenScripts) → command_for words.now ≡ Some (Command.Rdo given) → O.told → S.tells scripts.old ≡ true → (result.events ≡ [] → ⊥) →
         HoldsBackups ⟦<ReservingStatements as Statements>⟧.stands (said_to (letting given.death O.opening) (word_of words.now) (scripts_of (S.left scripts.old) given.count)) (D.view result.disk) (map event_of result.events) }
+    // Each backup that stood whole before, whoever made it, and that rolled forward gave what the disk stood for, does so behind it, in
+    // each image that a crash might have left, where the database was in use and no session began a backup of its number.
+    ensures backups_before { (given : GivenScripts) → command_for words.now ≡ Some (Command.Rdo given) → O.told → S.tells scripts.old ≡ true → (result.events ≡ [] → ⊥) →
+        LeavesBackups (said_to (letting given.death O.opening) (word_of words.now) (scripts_of (S.left scripts.old) given.count)) (D.view disk) (D.view result.disk) (map event_of result.events) }
     // Where every session that lived came to its end, for the tables of all commits.
     ensures left { (given : GivenScripts) → command_for words.now ≡ Some (Command.Rdo given) → O.told → S.tells scripts.old ≡ true → IsWhole result.status →
         HoldsAll ⟦<ReservingStatements as Statements>⟧.stands (said_to (letting given.death O.opening) (word_of words.now) (scripts_of (S.left scripts.old) given.count)) (D.view result.disk) (map event_of result.events) }

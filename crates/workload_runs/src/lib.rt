@@ -14,7 +14,7 @@ mod stopping;
 mod whole;
 
 pub use line_runs::{
-    Halt, LineRun, Origin, ReservingStatements, Said, say_in_order, say_in_threads,
+    FormerDisk, Halt, LineRun, Origin, ReservingStatements, Said, say_in_order, say_in_threads,
 };
 pub use preparing::Part;
 pub use rmu_commands::{dump_command, page_command, verify_command};

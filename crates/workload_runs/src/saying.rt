@@ -25,7 +25,7 @@ use rdb_drive::Gate;
 use rdb_outside::Disk;
 use session_jobs::Statements;
 use std::alloc::Global;
-use std::marker::Send;
+use std::marker::{Brand, Send};
 use std::sync::Wait;
 use std::thread::Threads;
 use workload_replies::some_died;
@@ -62,7 +62,7 @@ pub(crate) fn say<
     ensures unsaid { (result.fault ≡ None → ⊥) → result.events ≡ [] }
 {
     let sessions = said.scripts.len() as u32;
-    say_in_threads::<R, O, D, Among<'_, G>>(rt, alloc, disk, said, &Among::of(sessions, gate))
+    say_in_threads::<R, O, Brand, D, Among<'_, G>>(rt, alloc, disk, said, &Among::of(sessions, gate))
 }
 
 /// The status of a database that wasn't opened or read.

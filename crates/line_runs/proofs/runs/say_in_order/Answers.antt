@@ -61,3 +61,9 @@ returns-in-Err-clause-gave_up g c told unopened = rw c.unsaid.ensures.disk (c.in
 
 pub returns-in-Ok-clause-order : goal.returns-in-Ok-clause-order
 returns-in-Ok-clause-order g c told whole = rw c.ended.ensures.events (c.run_in_order.ensures.order (sym c.ended.ensures.is_whole ∙ whole) told)
+
+pub returns-in-Ok-clause-backups_before : goal.returns-in-Ok-clause-backups_before
+returns-in-Ok-clause-backups_before g c told opened = rw c.ended.ensures.events (c.ended.ensures.backups_before g.O.Origin.opening (map event_of c.run_in_order.result.events) (c.run_in_order.ensures.images told))
+
+pub returns-in-Err-clause-backups_before : goal.returns-in-Err-clause-backups_before
+returns-in-Err-clause-backups_before g c told opened = absurd (none-some c.in-Err.unopened.fault (sym opened ∙ c.unsaid.ensures.fault))

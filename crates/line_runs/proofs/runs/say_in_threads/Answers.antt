@@ -58,3 +58,9 @@ returns-in-Ok-clause-gave_up g c told unopened = absurd (unopened c.ended.ensure
 
 pub returns-in-Err-clause-gave_up : goal.returns-in-Err-clause-gave_up
 returns-in-Err-clause-gave_up g c told unopened = rw c.unsaid.ensures.disk (c.in-Err.ensures.gave_up told)
+
+pub returns-in-Ok-clause-backups_before : goal.returns-in-Ok-clause-backups_before
+returns-in-Ok-clause-backups_before g c told opened = rw c.ended.ensures.events (c.ended.ensures.backups_before g.O.Origin.opening (map event_of c.run_in_threads.result.events) (c.run_in_threads.ensures.images told))
+
+pub returns-in-Err-clause-backups_before : goal.returns-in-Err-clause-backups_before
+returns-in-Err-clause-backups_before g c told opened = absurd (none-some c.in-Err.unopened.fault (sym opened ∙ c.unsaid.ensures.fault))

@@ -19,7 +19,7 @@ use Rattle.workload_runs.proofs.Faultless.{standing-lists-none}
 use Rattle.workload_runs.proofs.Opening.{opens-has-root}
 use Rattle.rdb_top.specs.Workloads.{AreWorkloadRuns, LeavesAll, LeavesRuns}
 use Rattle.rdb_top.proofs.Givens.{same-given, same-backup, same-copy, same-restore, same-workload}
-use Rattle.rdb_top.proofs.Saying.{prefix-of-given, backups-of-given, all-of-given}
+use Rattle.rdb_top.proofs.Saying.{prefix-of-given, backups-of-given, before-of-given, all-of-given}
 use Rattle.rdb_top.proofs.top.run.Goals as goal
 
 pub returns-in-Some-Rdo-clause-legal : goal.returns-in-Some-Rdo-clause-legal
@@ -179,3 +179,8 @@ pub returns-in-Some-Workload-clause-used_up : goal.returns-in-Some-Workload-clau
 returns-in-Some-Workload-clause-used_up g c told over =
     let opens = c.requires.opens told in
     absurd (false≢true (ap is_over_slot (sym (c.run_workload.ensures.idle opens.tells (opens-has-root _ (g.D.Disk.view c.args.disk) g.O.Origin.opening opens))) ∙ over))
+
+pub returns-in-Some-Rdo-clause-backups_before : goal.returns-in-Some-Rdo-clause-backups_before
+returns-in-Some-Rdo-clause-backups_before g c given row told tells some =
+    before-of-given (g.D.Disk.view c.args.disk) (g.D.Disk.view c.run_rdo.result.disk) g.O.Origin.opening (map event_of c.run_rdo.result.events) (word_of c.args.words.now) (g.S.Source.left c.args.scripts.now) c.in-Some-Rdo.given given
+    (same-given c.in-Some-Rdo.given given _ (ap Some (sym c.in-Some-Rdo.field-0-is) ∙ c.in-Some-Rdo.ensures.row) row) (c.run_rdo.ensures.backups_before told tells some)

@@ -10,7 +10,7 @@ use Rattle.workload_runs.specs.line_runs.Openings.{said_to}
 use Rattle.command_words.specs.Words.{word_of, order_in}
 use Rattle.rdb_top.specs.Deaths.{letting}
 use Rattle.rdb_top.specs.Runs.{scripts_of, IsWhole}
-use Rattle.rdb_top.proofs.Saying.{prefix-of-scripts, backups-of-scripts, all-of-scripts}
+use Rattle.rdb_top.proofs.Saying.{prefix-of-scripts, backups-of-scripts, before-of-scripts, all-of-scripts}
 use Rattle.rdb_top.proofs.Failures.{rose-deaths, rose-stopped, rose-unopened}
 use Rattle.rdb_top.proofs.Unsaid.{is-opened, nobody-died, nothing-said, stop-is-no-end, stop-is-no-failure, stop-is-no-fault}
 use Rattle.rdb_top.proofs.Upward.{scripts-length}
@@ -127,3 +127,13 @@ returns-in-Ok-clause-used_up g c told over = rw c.finish_scripts.ensures.disk (c
 
 pub returns-in-Err-clause-used_up : goal.returns-in-Err-clause-used_up
 returns-in-Err-clause-used_up g c told over = absurd (false≢true (ap is_over_slot (sym c.unsaid.ensures.halt) ∙ over))
+
+pub returns-in-Ok-clause-backups_before : goal.returns-in-Ok-clause-backups_before
+returns-in-Ok-clause-backups_before g c told tells some =
+    let opened = is-opened c.say_scripts-ran.result.fault c.say_scripts-ran.result.events c.say_scripts-ran.ensures.unsaid (λ none. some (c.finish_scripts.ensures.events ∙ none)) in
+    rw c.finish_scripts.ensures.events (rw c.finish_scripts.ensures.disk
+    (before-of-scripts (g.D.Disk.view c.args.disk) (g.D.Disk.view c.say_scripts-ran.result.disk) g.O.Origin.opening (map event_of c.say_scripts-ran.result.events) c.args.asked.given.death (word_of c.args.asked.words.now) _ _ (c.in-Ok.ensures.items tells)
+    (c.say_scripts-ran.ensures.backups_before told opened)))
+
+pub returns-in-Err-clause-backups_before : goal.returns-in-Err-clause-backups_before
+returns-in-Err-clause-backups_before g c told tells some = absurd (some c.unsaid.ensures.events)

@@ -13,7 +13,7 @@ use Rattle.command_words.specs.Words.{order_in, word_of}
 use Rattle.command_words.specs.declared.deaths.Death.{Death}
 use Rattle.rdb_top.specs.Deaths.{letting, sessions_dying}
 use Rattle.rdb_top.proofs.Deaths.{may-fail, mortals}
-use Rattle.rdb_top.proofs.Saying.{opens, prefix-of-word, backups-of-word, all-of-word}
+use Rattle.rdb_top.proofs.Saying.{opens, prefix-of-word, backups-of-word, before-of-word, all-of-word}
 use Rattle.rdb_top.proofs.Unsaid.{nobody-died}
 use Rattle.rdb_top.proofs.top.say_scripts.Goals as goal
 
@@ -91,3 +91,12 @@ returns-in-Ok-clause-used_up g c told over = c.run_of.ensures.used_up told over
 
 pub returns-in-Err-clause-used_up : goal.returns-in-Err-clause-used_up
 returns-in-Err-clause-used_up g c told over = absurd (false≢true (ap is_over_slot (sym c.unopened.ensures.halt) ∙ over))
+
+pub returns-in-Ok-clause-backups_before : goal.returns-in-Ok-clause-backups_before
+returns-in-Ok-clause-backups_before g c told opened = before-of-word (g.D.Disk.view c.args.disk) (g.D.Disk.view c.run_of.result.disk) g.O.Origin.opening (map event_of c.run_of.result.events) c.args.asked.given.death _ _ c.args.scripts.items c.in-Ok.ensures.word (c.run_of.ensures.backups_before told opened)
+
+pub returns-in-Err-clause-backups_before : goal.returns-in-Err-clause-backups_before
+returns-in-Err-clause-backups_before g c told opened = absurd (none-some _ (sym opened ∙ c.unopened.ensures.fault))
+
+pub run_of-requires-clause-former : goal.run_of-requires-clause-former
+run_of-requires-clause-former g c = record { in_use = λ is. is; stood = λ number since b has. has }

@@ -17,3 +17,7 @@ ghosts-run_of-O-Naming g a = record { book = a.said.desk }
 
 abbrev pub ghosts-run_of-B-Beginning : goal.ghosts-run_of-B-Beginning
 ghosts-run_of-B-Beginning g a = record { faults = (g.D.Disk.view a.disk).faults }
+
+-- what stood before these sessions
+abbrev pub ghosts-run_of-B-FormerDisk : goal.ghosts-run_of-B-FormerDisk
+ghosts-run_of-B-FormerDisk g a = record { former = g.D.Disk.view a.disk }

@@ -1,4 +1,4 @@
-use Rattle.std.proofs.Common.{◌≡◌, ◌≤◌, ℕ, IsTrue, refl, ap, sym, subst, ◌∙◌, arith}
+use Rattle.std.proofs.Common.{IsTrue, refl, ap, sym, arith}
 use Rattle.rdb_outside.specs.Disk.{LeftNow}
 use Rattle.line_store.specs.Shelves.{Shelf}
 use Rattle.store_copies.specs.Memory.{copied_by}
@@ -26,7 +26,7 @@ returns g c =
       backed = λ h shown number since lines past is. record {
         backup = record { classes = is.whole.classes; lines = lines; last_group = is.whole.copying.backup.last_group };
         lines_are = refl;
-        has = has-backup v held copies h shown number since lines (subst (λ (t : ℕ). since ≤ t) (ap (λ (x : Shelf). x.clock.time) shown.is ∙ shown.shown.lines.time) past) is reads;
+        has = has-backup v held copies h shown number since lines is reads;
       };
       standing = λ h shown used number since b has none. stands-still-whole v held copies h shown used number since b has none;
     }
