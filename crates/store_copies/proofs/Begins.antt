@@ -25,7 +25,7 @@ use Rattle.disk_store.proofs.Growing.{grow-same}
 use Rattle.disk_store.proofs.Moving.{itself}
 use Rattle.disk_store.proofs.Passing.{none-leaves}
 use Rattle.store_copies.specs.Memory.{CopiesMemory, copied_behind, copied_by, copier_in, done_behind, is_done}
-use Rattle.store_copies.specs.Shown.{seated, with_copies, GoesOn, IsFit, ShownWith, copied_sight}
+use Rattle.store_copies.specs.Shown.{seated, with_copies, GoesOn, IsFit, copied_sight}
 use Rattle.store_copies.proofs.Fitted.{fit-now}
 use Rattle.store_copies.proofs.Lifted.{Copies, IsAtWork, does-lifted}
 use Rattle.store_copies.proofs.Relations.{moves-to}
@@ -98,7 +98,7 @@ module _ (v : View) (left : IsTrue v.tells → LeftNow v v.content) (held behind
     ended = λ n bad. absurd (none-some n bad);
   }
 
-  stands : (copied_sight v held before).stand s ≡ outside
+  stands : seated (copied_by before s) (stand_at held.members s) ≡ outside
   stands = λ i. seated (was-none i) (out i)
 
   reads : IsAtStage behind.members s stage.Reading
@@ -128,7 +128,7 @@ module _ (v : View) (left : IsTrue v.tells → LeftNow v v.content) (held behind
       subst (λ (x : Copying). RollsTo start x.backup.last_group now.ledger.base) (same_Some next c (sym own ∙ is))
       (on start next.backup.last_group (subst (λ (l : Lines). RollsTo l next.backup.last_group shown.ledger.base) (sym shown.lines.now ∙ start-is) begins))
 
-  pub does-begin-copy : Does s (copying number []) (BeginsCopying s number) (copied_sight v held before) (copied_sight v behind after)
+  pub does-begin-copy : {former : View} → Does s (copying number []) (BeginsCopying s number) (copied_sight former v held before) (copied_sight former v behind after)
   does-begin-copy = does-lifted v v held behind before after s (Some number) None copies left (λ t n other. untouched-none v n) (λ t. none-leaves v t) (grow-same held.tables behind.tables tables)
       (BeginsReading s) (BeginsCopying s number) (λ h g moves t apart. moves.others.seat t apart)
       (λ h g with-it shown now moves. moves-to (copied_by before) (copied_by after) s copies.beside (reading h.now) (copying number h.now) h g

@@ -43,9 +43,9 @@ use Rattle.disk_store.proofs.Growing.{grow-same}
 use Rattle.disk_store.proofs.Moving.{itself}
 use Rattle.disk_store.proofs.Passing.{none-leaves}
 use Rattle.store_copies.specs.Memory.{CopiesMemory, copied_behind, copied_by, copier_in, done_behind, is_done}
-use Rattle.store_copies.specs.Shown.{seated, steps_with, with_copies, GoesOn, AreBehind, IsFit, IsRolling, ShownWith, IsBackedUp, IsBacked, copied_sight}
+use Rattle.store_copies.specs.Shown.{seated, steps_with, with_copies, GoesOn, AreBehind, AreGoing, IsFit, IsRolling, ShownWith, IsBacked, copied_sight}
 use Rattle.store_copies.proofs.Relations.{moves-to}
-use Rattle.store_copies.proofs.Lifted.{Copies, IsAtWork, WereGoing, copies-same, does-lifted}
+use Rattle.store_copies.proofs.Lifted.{Copies, IsAtWork, copies-same, does-lifted}
 use Rattle.store_copies.proofs.OneBackup.{same-rolls}
 use Rattle.store_copies.proofs.Others.{ended-pending}
 use Rattle.store_copies.proofs.Rolled.{pending-rolls}
@@ -129,7 +129,7 @@ module _ (v : View) (held : StoreMemory) (s : ℕ) (m : Member) (was : slice_get
   stands : stand_at held.members s ≡ reading []
   stands = ap stand_of was ∙ ap (λ st. seat_with st [] []) reads
 
-  pub stands-copying : (copied_sight v held before).stand s ≡ copying c.backup.number []
+  pub stands-copying : seated (copied_by before s) (stand_at held.members s) ≡ copying c.backup.number []
   stands-copying = λ i. seated (is i) (stands i)
 
   seat-copying : (h : Shelf) (start : Lines) → h.seat s ≡ reading start → (with_copies (copied_by before) h).seat s ≡ copying c.backup.number start
@@ -148,7 +148,7 @@ module _ (v : View) (held : StoreMemory) (s : ℕ) (m : Member) (was : slice_get
     -- ---- it is done
 
     module _ (none : copied_by after s ≡ None) (ends : Option ℕ) (copies : Copies before after s None ends) (kept : IsTrue v.tells → (n : ℕ) → (IsAtWork before s n → ⊥) → IsUntouched (file_of n) v w)
-        (rolling : (h g : Shelf) → WereGoing v held before h → (shown : Shown v held h) (behind : Shown w held g) → RollsOn shown.ledger.base behind.ledger.base → AreBehind before shown.ledger.base h → (n : ℕ) → ends ≡ Some n → IsRolling w n behind.ledger.base) where
+        (rolling : (h g : Shelf) → AreGoing v held.tables before h → (shown : Shown v held h) (behind : Shown w held g) → RollsOn shown.ledger.base behind.ledger.base → AreBehind before shown.ledger.base h → (n : ℕ) → ends ≡ Some n → IsRolling w n behind.ledger.base) where
       done-shelf : (h g : Shelf) → Shown v held h → Moves s (h.seat s) h g → IsDone s (with_copies (copied_by before) h) (with_copies (copied_by after) g)
       done-shelf h g shown moves =
           let it : ReadsFrom h s = from h shown in
@@ -159,12 +159,12 @@ module _ (v : View) (held : StoreMemory) (s : ℕ) (m : Member) (was : slice_get
           }
 
       abbrev stood : Seat
-      stood = (copied_sight v held before).stand s
+      stood = seated (copied_by before s) (stand_at held.members s)
 
       arrives : bare (seated (copied_by after s) (stand_at held.members s)) ≡ bare (stepped_to stood (Ok Done))
       arrives = ap (λ (x : Option Copying). bare (seated x (stand_at held.members s))) none ∙ ap bare stands ∙ sym (ap (λ (x : Seat). bare (stepped_to x (Ok Done))) stands-copying)
 
-      pub does-done : Does s (stepped_to stood (Ok Done)) (Steps s (Ok Done)) (copied_sight v held before) (copied_sight w held after)
+      pub does-done : {former : View} → Does s (stepped_to stood (Ok Done)) (Steps s (Ok Done)) (copied_sight former v held before) (copied_sight former w held after)
       does-done = does-lifted v w held held before after s None ends copies now kept beside.leaves (grow-same held.tables held.tables refl)
           (λ h g. Moves s (h.seat s) h g) (Steps s (Ok Done)) keeps
           (λ h g with-it shown behind moves. done-shelf h g shown moves)
@@ -176,9 +176,9 @@ module _ (v : View) (held : StoreMemory) (s : ℕ) (m : Member) (was : slice_get
     -- ---- there is more to do
 
     module _ (next : Copying) (own : copied_by after s ≡ Some next) (number : next.backup.number ≡ c.backup.number) (group : next.backup.last_group ≡ c.backup.last_group) (less : steps_left next < steps_left c) (copies : Copies before after s None None) (kept : IsTrue v.tells → (n : ℕ) → (IsAtWork before s n → ⊥) → IsUntouched (file_of n) v w)
-        (goes : (h : Shelf) (start : Lines) → WereGoing v held before h → Shown v held h → h.seat s ≡ reading start → GoesOn w held.tables next start) where
+        (goes : (h : Shelf) (start : Lines) → AreGoing v held.tables before h → Shown v held h → h.seat s ≡ reading start → GoesOn w held.tables next start) where
       abbrev stood-more : Seat
-      stood-more = (copied_sight v held before).stand s
+      stood-more = seated (copied_by before s) (stand_at held.members s)
 
       more-shelf : (h g : Shelf) → Shown v held h → Shown w held g → Moves s (h.seat s) h g → Goes s (with_copies (copied_by before) h) (with_copies (copied_by after) g)
       more-shelf h g shown behind moves =
@@ -200,7 +200,7 @@ module _ (v : View) (held : StoreMemory) (s : ℕ) (m : Member) (was : slice_get
           subst (λ (x : Copying). RollsTo start x.backup.last_group behind.ledger.base) same
           (subst (λ (n : ℕ). RollsTo start n behind.ledger.base) (sym group) (on start c.backup.last_group (were s c start is was-last (sym moves.mine ∙ seat))))
 
-      pub does-more : Does s (stepped_to stood-more (Ok More)) (Steps s (Ok More)) (copied_sight v held before) (copied_sight w held after)
+      pub does-more : {former : View} → Does s (stepped_to stood-more (Ok More)) (Steps s (Ok More)) (copied_sight former v held before) (copied_sight former w held after)
       does-more = does-lifted v w held held before after s None None copies now kept beside.leaves (grow-same held.tables held.tables refl)
           (λ h g. Moves s (h.seat s) h g) (Steps s (Ok More)) keeps
           (λ h g with-it shown behind moves. more-shelf h g shown behind moves)
@@ -213,12 +213,12 @@ module _ (v : View) (held : StoreMemory) (s : ℕ) (m : Member) (was : slice_get
     -- ---- it failed, and is made again
 
     module _ (same : after ≡ before) (fault : Fault) (rose : fault ≡ Failed → Rose v.faults w.faults) (kept : IsTrue v.tells → (n : ℕ) → (IsAtWork before s n → ⊥) → IsUntouched (file_of n) v w)
-        (good : (h : Shelf) (start : Lines) → WereGoing v held before h → Shown v held h → h.seat s ≡ reading start → (file : FileId) (slot : ℕ) → fault ≡ Bad file slot → ⊥)
-        (goes : (h : Shelf) (start : Lines) → WereGoing v held before h → Shown v held h → h.seat s ≡ reading start → GoesOn w held.tables c start) where
+        (good : (h : Shelf) (start : Lines) → AreGoing v held.tables before h → Shown v held h → h.seat s ≡ reading start → (file : FileId) (slot : ℕ) → fault ≡ Bad file slot → ⊥)
+        (goes : (h : Shelf) (start : Lines) → AreGoing v held.tables before h → Shown v held h → h.seat s ≡ reading start → GoesOn w held.tables c start) where
       abbrev stood-fault : Seat
-      stood-fault = (copied_sight v held before).stand s
+      stood-fault = seated (copied_by before s) (stand_at held.members s)
 
-      fault-shelf : (h g : Shelf) → WereGoing v held before h → Shown v held h → Shown w held g → Moves s (h.seat s) h g → Fails s fault (with_copies (copied_by before) h) (with_copies (copied_by before) g)
+      fault-shelf : (h g : Shelf) → AreGoing v held.tables before h → Shown v held h → Shown w held g → Moves s (h.seat s) h g → Fails s fault (with_copies (copied_by before) h) (with_copies (copied_by before) g)
       fault-shelf h g with-it shown behind moves =
           let it : ReadsFrom h s = from h shown in
           record {
@@ -230,7 +230,7 @@ module _ (v : View) (held : StoreMemory) (s : ℕ) (m : Member) (was : slice_get
       arrives-fault : bare (seated (copied_by before s) (stand_at held.members s)) ≡ bare (stepped_to stood-fault (Err fault))
       arrives-fault = ap bare stands-copying ∙ sym (ap (λ (x : Seat). bare (stepped_to x (Err fault))) stands-copying)
 
-      does-fault-same : Does s (stepped_to stood-fault (Err fault)) (Steps s (Err fault)) (copied_sight v held before) (copied_sight w held before)
+      does-fault-same : {former : View} → Does s (stepped_to stood-fault (Err fault)) (Steps s (Err fault)) (copied_sight former v held before) (copied_sight former w held before)
       does-fault-same = does-lifted v w held held before before s None None (copies-same before s) now kept beside.leaves (grow-same held.tables held.tables refl)
           (λ h g. Moves s (h.seat s) h g) (Steps s (Err fault)) keeps
           (λ h g with-it shown behind moves. fault-shelf h g with-it shown behind moves)
@@ -240,19 +240,19 @@ module _ (v : View) (held : StoreMemory) (s : ℕ) (m : Member) (was : slice_get
           (λ h g with-it shown behind on were moves n bad. absurd (none-some n bad))
           (stand_at held.members s) (stepped_to stood-fault (Err fault)) (step-begins stood-fault (Err fault)) arrives-fault plain
 
-      pub does-fault : Does s (stepped_to stood-fault (Err fault)) (Steps s (Err fault)) (copied_sight v held before) (copied_sight w held after)
-      does-fault = subst (λ (x : CopiesMemory). Does s (stepped_to stood-fault (Err fault)) (Steps s (Err fault)) (copied_sight v held before) (copied_sight w held x)) (sym same) does-fault-same
+      pub does-fault : {former : View} → Does s (stepped_to stood-fault (Err fault)) (Steps s (Err fault)) (copied_sight former v held before) (copied_sight former w held after)
+      does-fault {former} = subst (λ (x : CopiesMemory). Does s (stepped_to stood-fault (Err fault)) (Steps s (Err fault)) (copied_sight former v held before) (copied_sight former w held x)) (sym same) does-fault-same
 
   -- ---- what the copy comes to
 
   module _ (left : IsTrue v.tells → LeftNow v v.content) (last : copier_in before c.backup.number ≡ Some s) where
     -- its lines are those of the reader
-    goes-of : (h : Shelf) (start : Lines) → WereGoing v held before h → h.seat s ≡ reading start → GoesOn v held.tables c start
+    goes-of : (h : Shelf) (start : Lines) → AreGoing v held.tables before h → h.seat s ≡ reading start → GoesOn v held.tables c start
     goes-of h start were seat = were s c start is last seat
 
     module _ (w : View) (next : Copying) (limits : next.backup.limits ≡ c.backup.limits)
         (copied : IsTrue v.tells → (former : Former) (classes : ℕ → ℕ) (ledger : Ledger) (lines : Lines) → IsReader v ledger held.limits.snaps m.reader lines → IsInOrder lines → LieClassed held.tables classes lines → IsCopying former classes lines v c → IsCopying former classes lines w next) where
-      pub goes-worked : (h : Shelf) (start : Lines) → WereGoing v held before h → Shown v held h → h.seat s ≡ reading start → GoesOn w held.tables next start
+      pub goes-worked : (h : Shelf) (start : Lines) → AreGoing v held.tables before h → Shown v held h → h.seat s ≡ reading start → GoesOn w held.tables next start
       goes-worked h start with-it shown seat =
           let goes : GoesOn v held.tables c start = goes-of h start with-it seat in
           let read : IsReadBy v shown.ledger held m start = is-read-from v held h shown s m was reads start seat (left shown.tells) in
@@ -266,7 +266,7 @@ module _ (v : View) (held : StoreMemory) (s : ℕ) (m : Member) (was : slice_get
     -- no slot is refused
     pub none-bad : (sound : IsSound held) (fault : Fault)
         → ((file : FileId) (slot : ℕ) → fault ≡ Bad file slot → IsTrue v.tells → (former : Former) (classes : ℕ → ℕ) (ledger : Ledger) (lines : Lines) → IsReader v ledger held.limits.snaps m.reader lines → IsInOrder lines → MayBeCopied classes lines m.reader → LieClassed held.tables classes lines → IsCopying former classes lines v c → ⊥)
-        → (h : Shelf) (start : Lines) → WereGoing v held before h → Shown v held h → h.seat s ≡ reading start → (file : FileId) (slot : ℕ) → fault ≡ Bad file slot → ⊥
+        → (h : Shelf) (start : Lines) → AreGoing v held.tables before h → Shown v held h → h.seat s ≡ reading start → (file : FileId) (slot : ℕ) → fault ≡ Bad file slot → ⊥
     none-bad sound fault bad h start with-it shown seat file slot told =
         let goes : GoesOn v held.tables c start = goes-of h start with-it seat in
         let read : IsReadBy v shown.ledger held m start = is-read-from v held h shown s m was reads start seat (left shown.tells) in
@@ -284,12 +284,12 @@ module _ (v : View) (held : StoreMemory) (s : ℕ) (m : Member) (was : slice_get
 
   module _ (w : View) (after : CopiesMemory) (none : copied_by after s ≡ None) (copies : Copies before after s None (Some c.backup.number)) (last : copier_in before c.backup.number ≡ Some s) (left : IsTrue w.tells → LeftNow w w.content) (next : Copying) (number : next.backup.number ≡ c.backup.number)
       (group : next.backup.last_group ≡ c.backup.last_group) (ended : next.backup.stage ≡ Ended) (done : is_done after c.backup.number ≡ true)
-      (goes : (h : Shelf) (start : Lines) → WereGoing v held before h → Shown v held h → h.seat s ≡ reading start → GoesOn w held.tables next start) where
+      (goes : (h : Shelf) (start : Lines) → AreGoing v held.tables before h → Shown v held h → h.seat s ≡ reading start → GoesOn w held.tables next start) where
     -- reads give it
     has-copied : (start : Lines) (it : GoesOn w held.tables next start) → IsTrue w.tells → HasCopied it.classes start next.backup w.content
     has-copied start it tells = ended-pending it.former it.classes start w next ended it.is w.content (each_slot w w.content (left tells))
 
-    pub rolling-done : (h g : Shelf) → WereGoing v held before h → (shown : Shown v held h) (behind : Shown w held g) → RollsOn shown.ledger.base behind.ledger.base → AreBehind before shown.ledger.base h → (n : ℕ) → Some c.backup.number ≡ Some n → IsRolling w n behind.ledger.base
+    pub rolling-done : (h g : Shelf) → AreGoing v held.tables before h → (shown : Shown v held h) (behind : Shown w held g) → RollsOn shown.ledger.base behind.ledger.base → AreBehind before shown.ledger.base h → (n : ℕ) → Some c.backup.number ≡ Some n → IsRolling w n behind.ledger.base
     rolling-done h g with-it shown behind on were n same =
         let it : ReadsFrom h s = from h shown in
         let its : GoesOn w held.tables next it.start = goes h it.start with-it shown it.seat in
@@ -302,9 +302,10 @@ module _ (v : View) (held : StoreMemory) (s : ℕ) (m : Member) (was : slice_get
           rolls = subst (λ (k : ℕ). RollsTo it.start k behind.ledger.base) (sym group) (on it.start c.backup.last_group (were s c it.start is last it.seat));
         }
 
-    backed-now : (start : Lines) → GoesOn w held.tables next start → (k : Shelf) → ShownWith w held after k → IsBacked w after c.backup.number w.moment start
+    backed-now : {former : View} (start : Lines) → GoesOn w held.tables next start → (k : Shelf) → ShownWith former w held after k → IsBacked w after c.backup.number w.moment start
     backed-now start it k behind = record {
       whole = record {
+        early = omega arith;
         former = it.former;
         classes = it.classes;
         copying = next;
@@ -326,7 +327,7 @@ module _ (v : View) (held : StoreMemory) (s : ℕ) (m : Member) (was : slice_get
         by t true same x own last-now = none-some x (sym (ap (copied_by after) (eqb-true t s same) ∙ none) ∙ own)
         by t false apart x own last-now = eqb-false t s apart (same_Some t s (sym last-now ∙ last))
 
-    pub backed-done : IsBackedBy s (copied_sight v held before) (copied_sight w held after)
+    pub backed-done : {former : View} → IsBackedBy s (copied_sight former v held before) (copied_sight former w held after)
     backed-done h k n start shown behind seat copier =
         let it : ReadsFrom shown.plain s = from shown.plain shown.shown in
         let same : copying n start ≡ copying c.backup.number it.start = sym seat ∙ ap (λ (x : Shelf). x.seat s) shown.is ∙ seat-copying shown.plain it.start it.seat in
@@ -338,7 +339,7 @@ module _ (v : View) (held : StoreMemory) (s : ℕ) (m : Member) (was : slice_get
         (subst (λ (l : Lines). IsBacked w after c.backup.number w.moment l) (sym start-is) (backed-now it.start (goes shown.plain it.start shown.goes_on shown.shown it.seat) k behind)))
 
   -- another session began a backup of its number: nothing is promised
-  pub backed-by-none : (w : View) (after : CopiesMemory) → copier_in before c.backup.number ≢ Some s → IsBackedBy s (copied_sight v held before) (copied_sight w held after)
+  pub backed-by-none : {former : View} (w : View) (after : CopiesMemory) → copier_in before c.backup.number ≢ Some s → IsBackedBy s (copied_sight former v held before) (copied_sight former w held after)
   backed-by-none w after other h k n start shown behind seat copier =
       let it : ReadsFrom shown.plain s = from shown.plain shown.shown in
       let same : copying n start ≡ copying c.backup.number it.start = sym seat ∙ ap (λ (x : Shelf). x.seat s) shown.is ∙ seat-copying shown.plain it.start it.seat in

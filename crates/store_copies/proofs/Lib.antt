@@ -14,4 +14,5 @@ mod Fitted
 pub mod Begins
 pub mod Sighted
 pub mod Plain
+pub mod Standing
 mod SetCopies

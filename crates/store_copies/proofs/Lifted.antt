@@ -3,8 +3,7 @@ use Rattle.std.proofs.Common.{◌≡◌, ◌≢◌, ◌≤◌, ◌==◌, ◌⊎�
 use Rattle.std.proofs.lemmas.Bool.{eqb-true, eqb-false}
 use Rattle.std.proofs.lemmas.Option.{same_Some, none-some}
 use Rattle.std.proofs.Math.Dec.{eqb_refl}
-use Rattle.rdb_outside.specs.Disk.{View, LeavesOnly, LeftNow, IsPending}
-use Rattle.rdb_outside.specs.Moments.{each_slot}
+use Rattle.rdb_outside.specs.Disk.{View, Image, LeavesOnly, LeftNow, IsPending}
 use Rattle.line_view.specs.Knowledge.{Lines}
 use Rattle.line_store.specs.Seats.{Seat, reading, begun}
 use Rattle.line_store.specs.Shelves.{Shelf}
@@ -12,17 +11,17 @@ use Rattle.line_store.specs.Calls.{Lasts, MayStand}
 use Rattle.line_store.specs.Sights.{bare, Sight, Behind, Does, copier_behind}
 use Rattle.backup_making.specs.Making.{file_of}
 use Rattle.partial_backup.specs.declared.copying.Copying.{Copying}
-use Rattle.partial_backup.specs.Left.{HasCopied}
 use Rattle.partial_backup.specs.Partial.{IsUntouched}
 use Rattle.disk_store.specs.Grown.{Grow}
 use Rattle.disk_store.specs.Memory.{StoreMemory}
 use Rattle.disk_store.specs.Seats.{stand_at}
 use Rattle.disk_store.specs.Shown.{DoesOn, RollsOn, RollsTo, Shown, sight_of}
 use Rattle.store_copies.specs.Memory.{CopiesMemory, copied_by, copier_in, is_done}
-use Rattle.store_copies.specs.Shown.{seated, steps_with, with_copies, GoesOn, AreBehind, AreGoing, AreRolling, IsQuiet, IsRolling, ShownWith, IsBackedUp, IsBacked, copied_sight}
-use Rattle.store_copies.proofs.Seated.{bare-seated, stand-with, stands-with}
-use Rattle.store_copies.proofs.OneBackup.{rolling-still, same-rolls}
-use Rattle.store_copies.proofs.Others.{backed-still, ended-pending, goes-on-still}
+use Rattle.store_copies.specs.Shown.{seated, steps_with, with_copies, GoesOn, AreBehind, AreGoing, AreRolling, AreStanding, IsQuiet, IsRolling, IsStanding, ShownWith, IsBacked, copied_sight}
+use Rattle.store_copies.specs.Stood.{NumbersFromOne, RollsFrom}
+use Rattle.store_copies.proofs.Seated.{bare-seated, stand-with}
+use Rattle.store_copies.proofs.OneBackup.{rolling-still, rolls-whole}
+use Rattle.store_copies.proofs.Others.{backed-still, goes-on-still, stood-still}
 use Rattle.store_copies.proofs.Rolled.{pending-rolls}
 
 -- ---- who began a backup last
@@ -47,11 +46,16 @@ copier-same s (Some number) f n apart = by (n == number) refl
     by true same = absurd (apart (ap (λ (m : ℕ). Some m) (sym (eqb-true n number same))))
     by false other = ap (λ (b : Bool). cond b (Some s) (f n)) other
 
--- ---- what the session itself copies
+-- where nobody began one behind the call, nobody had before it
+pub copier-none : (s : ℕ) (begins : Option ℕ) (f : ℕ → Option ℕ) (n : ℕ) → copier_behind s begins f n ≡ None → f n ≡ None
+copier-none s None f n is = is
+copier-none s (Some number) f n is = by (n == number) refl
+  where
+    by : (b : Bool) → (n == number) ≡ b → f n ≡ None
+    by true same = absurd (none-some s (sym is ∙ ap (λ (b : Bool). cond b (Some s) (f n)) same))
+    by false other = sym (ap (λ (b : Bool). cond b (Some s) (f n)) other) ∙ is
 
--- Of who began a backup last, that backup goes on.
-abbrev pub WereGoing : View → StoreMemory → CopiesMemory → Shelf → Type 0
-WereGoing v held copies h = AreGoing v held.tables copies h
+-- ---- what the session itself copies
 
 -- the session is at work on the backup of this number, and began it last
 pub record IsAtWork (copies : CopiesMemory) (s number : ℕ) : Type 0 where
@@ -95,12 +99,12 @@ module _ (v w : View) (held behind : StoreMemory) (before after : CopiesMemory) 
 
   module _ (R Q : Shelf → Shelf → Type 0)
       (keeps : (h g : Shelf) → R h g → (t : ℕ) → (t == s) ≡ false → g.seat t ≡ h.seat t)
-      (seen : (h g : Shelf) → WereGoing v held before h → Shown v held h → Shown w behind g → R h g → Q (with_copies (copied_by before) h) (with_copies (copied_by after) g))
-      (mine-goes : (h g : Shelf) → WereGoing v held before h → Shown v held h → Shown w behind g → R h g
+      (seen : (h g : Shelf) → AreGoing v held.tables before h → Shown v held h → Shown w behind g → R h g → Q (with_copies (copied_by before) h) (with_copies (copied_by after) g))
+      (mine-goes : (h g : Shelf) → AreGoing v held.tables before h → Shown v held h → Shown w behind g → R h g
       → (c : Copying) (start : Lines) → copied_by after s ≡ Some c → copier_in after c.backup.number ≡ Some s → g.seat s ≡ reading start → GoesOn w behind.tables c start)
       (mine-rolls : (h g : Shelf) (shown : Shown v held h) (now : Shown w behind g) → RollsOn shown.ledger.base now.ledger.base → AreBehind before shown.ledger.base h → R h g
       → (c : Copying) (start : Lines) → copied_by after s ≡ Some c → copier_in after c.backup.number ≡ Some s → g.seat s ≡ reading start → RollsTo start c.backup.last_group now.ledger.base)
-      (mine-ends : (h g : Shelf) → WereGoing v held before h → (shown : Shown v held h) (now : Shown w behind g) → RollsOn shown.ledger.base now.ledger.base → AreBehind before shown.ledger.base h → R h g
+      (mine-ends : (h g : Shelf) → AreGoing v held.tables before h → (shown : Shown v held h) (now : Shown w behind g) → RollsOn shown.ledger.base now.ledger.base → AreBehind before shown.ledger.base h → R h g
       → (n : ℕ) → ends ≡ Some n → IsRolling w n now.ledger.base) where
     -- nobody is at work where nobody was, or where the session has come to the end
     quiet-still : (n : ℕ) → (begins ≡ Some n → ⊥) → IsQuiet before n → IsQuiet after n
@@ -125,7 +129,7 @@ module _ (v w : View) (held behind : StoreMemory) (before after : CopiesMemory) 
         by true same = none-some c (sym (ap (copied_by after) (eqb-true t s same) ∙ it.1) ∙ own)
         by false apart = not-its t n apart (copier-before t n apart last) it.0
 
-    module _ (h : Shelf) (shown : ShownWith v held before h) (plain : Seat) (b : Behind (sight_of v held) (sight_of w behind) (begun (stand_at held.members s) plain) R shown.plain) (on : RollsOn shown.shown.ledger.base b.shown.ledger.base) where
+    module _ {former : View} (h : Shelf) (shown : ShownWith former v held before h) (plain : Seat) (b : Behind (sight_of v held) (sight_of w behind) (begun (stand_at held.members s) plain) R shown.plain) (on : RollsOn shown.shown.ledger.base b.shown.ledger.base) where
       goes-on-behind : (t : ℕ) (e : Bool) → (t == s) ≡ e → (c : Copying) (start : Lines) → copied_by after t ≡ Some c → copier_in after c.backup.number ≡ Some t → b.shelf.seat t ≡ reading start → GoesOn w behind.tables c start
       goes-on-behind t true same c start is last seat =
           let e : t ≡ s = eqb-true t s same in
@@ -156,10 +160,27 @@ module _ (v w : View) (held behind : StoreMemory) (before after : CopiesMemory) 
           (λ (is : ends ≡ Some n). (quiet-ended n is, mine-ends shown.plain b.shelf shown.goes_on shown.shown b.shown on shown.behind b.related n is))
           (copies.done n done)
 
+      -- what a crash leaves before and behind the call, rolled forward from what gave what was committed
+      rolls-still : (base : Lines) (last : ℕ) → RollsTo base last shown.shown.ledger.base → (image : Image) → IsPending v image ⊎ IsPending w image → NumbersFromOne image → RollsFrom base last image
+      rolls-still base last rolls image pending from = ⊎_elim
+          (λ old. pending-rolls v shown.shown.ledger shown.shown.facts base last rolls image old from)
+          (λ new. pending-rolls w b.shown.ledger b.shown.facts base last (on base last rolls) image new from) pending
+
+      -- each backup that stood before the store was opened stands, where nobody began one of its number
+      standing-behind : AreStanding former w after b.shown.ledger.base
+      standing-behind used n since stood had none =
+          let was-none : copier_in before n ≡ None = copier-none s begins (copier_in before) n (sym (copies.numbers n) ∙ none) in
+          let it : IsStanding v n since stood shown.shown.ledger.base = shown.standing used n since stood had was-none in
+          record {
+            has = stood-still v w n since stood (leaves shown.shown.tells) (kept shown.shown.tells n (λ work. none-some s (sym was-none ∙ work.last))) it.has
+                (rolls-still stood.lines stood.last_group it.rolls);
+            rolls = on stood.lines stood.last_group it.rolls;
+          }
+
       abbrev shelf : Shelf
       shelf = with_copies (copied_by after) b.shelf
 
-      shown-behind : ShownWith w behind after shelf
+      shown-behind : ShownWith former w behind after shelf
       shown-behind = record {
         plain = b.shelf;
         shown = b.shown;
@@ -167,37 +188,30 @@ module _ (v w : View) (held behind : StoreMemory) (before after : CopiesMemory) 
         goes_on = λ t c start is last seat. goes-on-behind t (t == s) refl c start is last seat;
         behind = λ t c start is last seat. rolls-behind t (t == s) refl c start is last seat;
         rolling = rolling-behind;
+        standing = standing-behind;
       }
 
       abbrev as-before : Shelf
       as-before = with_copies (copied_by before) shown.plain
 
-      shelf-lasts : Lasts (copied_sight v held before).left (copied_sight w behind after).left as-before shelf
+      shelf-lasts : Lasts (copied_sight former v held before).left (copied_sight former w behind after).left as-before shelf
       shelf-lasts = record {
         since = λ t lines early left. ⊎_elim (λ was. inl was)
             (λ stands. inr (⊎_elim (λ old. inl (stand-with (copied_by before) shown.plain lines old)) (λ new. inr (stand-with (copied_by after) b.shelf lines new)) stands))
             (b.lasts.since t lines early left);
       }
 
-      -- what is known of a backup that the store had whole
-      rolls-whole : (n t : ℕ) (lines : Lines) (was : IsBackedUp v n t lines) → is_done before n ≡ true → RollsTo lines was.copying.backup.last_group shown.shown.ledger.base
-      rolls-whole n t lines was done =
-          let has : HasCopied was.classes lines was.copying.backup v.content = ended-pending was.former was.classes lines v was.copying was.ended was.is v.content (each_slot v v.content (reads shown.shown.tells)) in
-          same-rolls v n shown.shown.ledger.base was.classes lines was.copying.backup was.number_is has (shown.rolling n done).1
-
       backed-behind : (n t : ℕ) (lines : Lines) → t ≤ shown.plain.clock.time → (begins ≡ Some n → ⊥) → IsBacked v before n t lines → IsBacked w after n t lines
       backed-behind n t lines early apart was =
-          let rolls : RollsTo lines was.whole.copying.backup.last_group shown.shown.ledger.base = rolls-whole n t lines was.whole was.done in
+          let rolls : RollsTo lines was.whole.copying.backup.last_group shown.shown.ledger.base = rolls-whole v held before h shown reads n t lines was.whole was.done in
           record {
             whole = backed-still v w n t lines (subst (λ (k : ℕ). t ≤ k) shown.shown.lines.time early) (leaves shown.shown.tells) (untouched-quiet n was.quiet) was.whole
-                (λ image pending from. ⊎_elim
-                (λ old. pending-rolls v shown.shown.ledger shown.shown.facts lines was.whole.copying.backup.last_group rolls image old from)
-                (λ new. pending-rolls w b.shown.ledger b.shown.facts lines was.whole.copying.backup.last_group (on lines was.whole.copying.backup.last_group rolls) image new from) pending);
+                (rolls-still lines was.whole.copying.backup.last_group rolls);
             done = copies.kept n apart was.done;
             quiet = quiet-still n apart was.quiet;
           }
 
-      lifted : Behind (copied_sight v held before) (copied_sight w behind after) begins Q as-before
+      lifted : Behind (copied_sight former v held before) (copied_sight former w behind after) begins Q as-before
       lifted = record {
         shelf = shelf;
         shown = shown-behind;
@@ -208,13 +222,13 @@ module _ (v w : View) (held behind : StoreMemory) (before after : CopiesMemory) 
       }
 
     -- the call, beside what sessions copy
-    pub does-lifted : (plain there : Seat) → begun ((copied_sight v held before).stand s) there ≡ begins → bare (seated (copied_by after s) (stand_at behind.members s)) ≡ bare there
-        → DoesOn s plain R v held w behind → Does s there Q (copied_sight v held before) (copied_sight w behind after)
-    does-lifted plain there begins-is arrives does = record {
+    pub does-lifted : {former : View} (plain there : Seat) → begun (seated (copied_by before s) (stand_at held.members s)) there ≡ begins → bare (seated (copied_by after s) (stand_at behind.members s)) ≡ bare there
+        → DoesOn s plain R v held w behind → Does s there Q (copied_sight former v held before) (copied_sight former w behind after)
+    does-lifted {former} plain there begins-is arrives does = record {
       mine = arrives;
       others = λ t apart. bare-seated (copied_by after t) (stand_at behind.members t) (stand_at held.members t) (does.does.others t apart) ∙ ap (λ (c : Option Copying). bare (seated c (stand_at held.members t))) (copies.beside t apart);
       steps = λ t apart. λ i. steps_with (copies.beside t apart i) (does.does.steps t apart i);
       copier = λ n. copies.numbers n ∙ ap (λ (b : Option ℕ). copier_behind s b (copier_in before) n) (sym begins-is);
-      each = λ h shown. subst (λ (x : Shelf). Behind (copied_sight v held before) (copied_sight w behind after) (begun ((copied_sight v held before).stand s) there) Q x) (sym shown.is)
-          (subst (λ (b : Option ℕ). Behind (copied_sight v held before) (copied_sight w behind after) b Q (with_copies (copied_by before) shown.plain)) (sym begins-is) (lifted h shown plain (does.does.each shown.plain shown.shown) (does.rolls shown.plain shown.shown)));
+      each = λ h shown. subst (λ (x : Shelf). Behind (copied_sight former v held before) (copied_sight former w behind after) (begun (seated (copied_by before s) (stand_at held.members s)) there) Q x) (sym shown.is)
+          (subst (λ (b : Option ℕ). Behind (copied_sight former v held before) (copied_sight former w behind after) b Q (with_copies (copied_by before) shown.plain)) (sym begins-is) (lifted h shown plain (does.does.each shown.plain shown.shown) (does.rolls shown.plain shown.shown)));
     }

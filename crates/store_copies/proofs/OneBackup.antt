@@ -1,8 +1,10 @@
 -- The slots of a file are one backup at most, so what is known of one that has come to its end is known of that which the store has whole.
-use Rattle.std.proofs.Common.{◌≡◌, ℕ, List, sym, ap, subst, ◌∙◌}
-use Rattle.rdb_outside.specs.Disk.{View}
+use Rattle.std.proofs.Common.{◌≡◌, ℕ, true, IsTrue, List, sym, ap, subst, ◌∙◌}
+use Rattle.rdb_outside.specs.Disk.{View, LeftNow}
+use Rattle.rdb_outside.specs.Moments.{each_slot}
 use Rattle.line_view.specs.Knowledge.{Lines}
 use Rattle.stable_lines.specs.Progress.{Progress}
+use Rattle.line_store.specs.Shelves.{Shelf}
 use Rattle.backup_file.specs.declared.header.BackupHead.{BackupHead}
 use Rattle.backup_file.specs.declared.line.BackupLine.{BackupLine}
 use Rattle.backup_file.specs.Whole.{Stores, lines_in}
@@ -11,8 +13,11 @@ use Rattle.backup_making.specs.declared.making.Backup.{Backup}
 use Rattle.backup_making.specs.Making.{file_of, head_of, slots_of}
 use Rattle.partial_backup.specs.Left.{HasCopied}
 use Rattle.partial_backup.specs.Partial.{IsUntouched}
+use Rattle.disk_store.specs.Memory.{StoreMemory}
 use Rattle.disk_store.specs.Shown.{RollsOn, RollsTo}
-use Rattle.store_copies.specs.Shown.{IsRolling}
+use Rattle.store_copies.specs.Memory.{CopiesMemory, is_done}
+use Rattle.store_copies.specs.Shown.{IsBackedUp, IsRolling, ShownWith}
+use Rattle.store_copies.proofs.Others.{ended-pending}
 
 -- a backup whose file stays
 copied-still : (v w : View) (classes : ℕ → ℕ) (lines : Lines) (b : Backup) → IsUntouched (file_of b.number) v w → HasCopied classes lines b v.content → HasCopied classes lines b w.content
@@ -39,3 +44,10 @@ same-rolls v number now classes lines b number-is has is =
     let group : is.copying.backup.last_group ≡ b.last_group = ap (λ (h : BackupHead). h.last_group) (same_head slots (head_of is.copying.backup is.has.copies) (head_of b has.copies) is.has.copies has.copies its mine) in
     let same : is.lines ≡ lines = sym is.has.has ∙ ap lines_in (same_lines slots (head_of is.copying.backup is.has.copies) (head_of b has.copies) is.has.copies has.copies its mine) ∙ has.has in
     subst (λ (l : Lines). RollsTo l b.last_group now) same (subst (λ (n : ℕ). RollsTo is.lines n now) group is.rolls)
+
+-- what is known of a backup that the store has whole
+pub rolls-whole : {former : View} (v : View) (held : StoreMemory) (copies : CopiesMemory) (h : Shelf) (shown : ShownWith former v held copies h) → (IsTrue v.tells → LeftNow v v.content) → (n since : ℕ) (lines : Lines) (it : IsBackedUp v n since lines) → is_done copies n ≡ true
+    → RollsTo lines it.copying.backup.last_group shown.shown.ledger.base
+rolls-whole v held copies h shown reads n since lines it done =
+    let has : HasCopied it.classes lines it.copying.backup v.content = ended-pending it.former it.classes lines v it.copying it.ended it.is v.content (each_slot v v.content (reads shown.shown.tells)) in
+    same-rolls v n shown.shown.ledger.base it.classes lines it.copying.backup it.number_is has (shown.rolling n done).1

@@ -53,10 +53,10 @@ leaves-own v w reads writes = record {
 }
 
 module _ (v w : View) (held behind : StoreMemory) (copies : CopiesMemory) (s : ℕ) (none : copied_by copies s ≡ None) (left : Leaves v w) (grows : Grow held.tables behind.tables) where
-  pub does-with : (there : Seat) (R Q : Shelf → Shelf → Type 0) → begun (stand_at held.members s) there ≡ None
+  pub does-with : {former : View} (there : Seat) (R Q : Shelf → Shelf → Type 0) → begun (stand_at held.members s) there ≡ None
       → ((h g : Shelf) → R h g → (t : ℕ) → (t == s) ≡ false → g.seat t ≡ h.seat t)
       → ((h g : Shelf) → R h g → Q (with_copies (copied_by copies) h) (with_copies (copied_by copies) g))
-      → DoesOn s there R v held w behind → Does s there Q (copied_sight v held copies) (copied_sight w behind copies)
+      → DoesOn s there R v held w behind → Does s there Q (copied_sight former v held copies) (copied_sight former w behind copies)
   does-with there R Q begins keeps seen does = does-lifted v w held behind copies copies s None None (copies-same copies s) left.reads (λ t n other. left.untouched t n) left.leaves grows R Q keeps
       (λ h g with-it shown now is. seen h g is)
       (λ h g with-it shown now is c start own last seat. absurd (none-some c (sym none ∙ own)))
@@ -74,10 +74,10 @@ module _ (v w : View) (held behind : StoreMemory) (copies : CopiesMemory) (s : �
       by false apart = same-reader (stand_at behind.members t) (stand_at held.members t) (does.does.others t apart) (were t c is)
 
 -- nothing changes, where nothing does without the copies
-pub stays-with : (v w : View) (held behind : StoreMemory) (copies : CopiesMemory) (s : ℕ) → copied_by copies s ≡ None → Leaves v w → Grow held.tables behind.tables → begun (stand_at held.members s) (stand_at held.members s) ≡ None
-    → StaysOn s v held w behind → Stays s (copied_sight v held copies) (copied_sight w behind copies)
-stays-with v w held behind copies s none left grows begins stays =
-    subst (λ (seat : Seat). Does s seat (λ h g. g ≡ h) (copied_sight v held copies) (copied_sight w behind copies)) (sym (ap (λ (x : Option Copying). seated x (stand_at held.members s)) none))
+pub stays-with : {former : View} (v w : View) (held behind : StoreMemory) (copies : CopiesMemory) (s : ℕ) → copied_by copies s ≡ None → Leaves v w → Grow held.tables behind.tables → begun (stand_at held.members s) (stand_at held.members s) ≡ None
+    → StaysOn s v held w behind → Stays s (copied_sight former v held copies) (copied_sight former w behind copies)
+stays-with {former} v w held behind copies s none left grows begins stays =
+    subst (λ (seat : Seat). Does s seat (λ h g. g ≡ h) (copied_sight former v held copies) (copied_sight former w behind copies)) (sym (ap (λ (x : Option Copying). seated x (stand_at held.members s)) none))
     (does-with v w held behind copies s none left grows (stand_at held.members s) (λ h g. g ≡ h) (λ h g. g ≡ h) begins
     (λ h g is t apart. ap (λ (x : Shelf). x.seat t) is) (λ h g is. ap (with_copies (copied_by copies)) is) stays)
 
@@ -109,7 +109,7 @@ module _ (v : View) (held behind : StoreMemory) (before after : CopiesMemory) (s
   left-copies : Copies before after s None None
   left-copies = copies-set before after s None set numbers done (λ c bad. absurd (none-some c bad))
 
-  pub does-die : Does s (died ((copied_sight v held before).stand s)) (Dies s) (copied_sight v held before) (copied_sight v behind after)
+  pub does-die : {former : View} → Does s (died (seated (copied_by before s) (stand_at held.members s))) (Dies s) (copied_sight former v held before) (copied_sight former v behind after)
   does-die = does-lifted v v held behind before after s None None left-copies reads (λ t n other. (leaves-none v reads).untouched t n) (leaves-none v reads).leaves grows (Dies s) (Dies s)
       (λ h g moves t apart. moves.others.seat t apart)
       (λ h g with-it shown now moves. moves-to (copied_by before) (copied_by after) s left-copies.beside (died (h.seat s)) (died ((with_copies (copied_by before) h).seat s)) h g
@@ -117,7 +117,7 @@ module _ (v : View) (held behind : StoreMemory) (before after : CopiesMemory) (s
       (λ h g with-it shown now moves c start own last seat. absurd (none-some c (sym gone ∙ own)))
       (λ h g shown now on were moves c start own last seat. absurd (none-some c (sym gone ∙ own)))
       (λ h g with-it shown now on were moves n bad. absurd (none-some n bad))
-      (died (stand_at held.members s)) (died ((copied_sight v held before).stand s)) refl
+      (died (stand_at held.members s)) (died (seated (copied_by before s) (stand_at held.members s))) refl
       (ap (λ (x : Option Copying). bare (seated x (stand_at behind.members s))) gone ∙ does.does.mine ∙ ap bare (sym (died-seated (copied_by before s) (stand_at held.members s)))) does
 
   pub readers-left : AreReaders held before → AreReaders behind after
@@ -130,18 +130,18 @@ module _ (v : View) (held behind : StoreMemory) (before after : CopiesMemory) (s
 -- ---- a page is taken, by whomever
 
 module _ (v : View) (held behind : StoreMemory) (copies : CopiesMemory) (s : ℕ) (key : Dbkey) (reads : IsTrue v.tells → LeftNow v v.content) (grows : Grow held.tables behind.tables) (does : DoesOn s (stand_at held.members s) (Takes key) v held v behind) where
-  pub does-take : Does s ((copied_sight v held copies).stand s) (Takes key) (copied_sight v held copies) (copied_sight v behind copies)
+  pub does-take : {former : View} → Does s (seated (copied_by copies s) (stand_at held.members s)) (Takes key) (copied_sight former v held copies) (copied_sight former v behind copies)
   does-take = does-lifted v v held behind copies copies s None None (copies-same copies s) reads (λ t n other. (leaves-none v reads).untouched t n) (leaves-none v reads).leaves grows (Takes key) (Takes key)
       (λ h g takes t apart. takes.seat t)
       (λ h g were shown now takes. takes-with (copied_by copies) key h g takes)
       (λ h g were shown now takes c start own last seat. goes-on-still v v held.tables behind.tables c start ((leaves-none v reads).untouched shown.tells c.backup.number) grows (were s c start own last (sym (takes.seat s) ∙ seat)))
       (λ h g shown now on were takes c start own last seat. on start c.backup.last_group (were s c start own last (sym (takes.seat s) ∙ seat)))
       (λ h g with-it shown now on were takes n bad. absurd (none-some n bad))
-      (stand_at held.members s) ((copied_sight v held copies).stand s) (begun-same (copied_at ((copied_sight v held copies).stand s)))
+      (stand_at held.members s) (seated (copied_by copies s) (stand_at held.members s)) (begun-same (copied_at (seated (copied_by copies s) (stand_at held.members s))))
       (bare-seated (copied_by copies s) (stand_at behind.members s) (stand_at held.members s) does.does.mine) does
 
 -- whoever calls: where nothing changes without the copies, nothing does with them
-pub stays-any : (v : View) (held behind : StoreMemory) (copies : CopiesMemory) (s : ℕ) → (IsTrue v.tells → LeftNow v v.content) → Grow held.tables behind.tables → StaysOn s v held v behind → Stays s (copied_sight v held copies) (copied_sight v behind copies)
+pub stays-any : {former : View} (v : View) (held behind : StoreMemory) (copies : CopiesMemory) (s : ℕ) → (IsTrue v.tells → LeftNow v v.content) → Grow held.tables behind.tables → StaysOn s v held v behind → Stays s (copied_sight former v held copies) (copied_sight former v behind copies)
 stays-any v held behind copies s reads grows stays =
     does-lifted v v held behind copies copies s None None (copies-same copies s) reads (λ t n other. (leaves-none v reads).untouched t n) (leaves-none v reads).leaves grows (λ h g. g ≡ h) (λ h g. g ≡ h)
     (λ h g same t apart. ap (λ (x : Shelf). x.seat t) same)
@@ -149,5 +149,5 @@ stays-any v held behind copies s reads grows stays =
     (λ h g were shown now same c start own last seat. goes-on-still v v held.tables behind.tables c start ((leaves-none v reads).untouched shown.tells c.backup.number) grows (were s c start own last (ap (λ (x : Shelf). x.seat s) (sym same) ∙ seat)))
     (λ h g shown now on were same c start own last seat. on start c.backup.last_group (were s c start own last (ap (λ (x : Shelf). x.seat s) (sym same) ∙ seat)))
     (λ h g with-it shown now on were same n bad. absurd (none-some n bad))
-    (stand_at held.members s) ((copied_sight v held copies).stand s) (begun-same (copied_at ((copied_sight v held copies).stand s)))
+    (stand_at held.members s) (seated (copied_by copies s) (stand_at held.members s)) (begun-same (copied_at (seated (copied_by copies s) (stand_at held.members s))))
     (bare-seated (copied_by copies s) (stand_at behind.members s) (stand_at held.members s) stays.does.mine) stays

@@ -15,11 +15,11 @@ use Rattle.journal_scan.specs.Standing.{what_stands}
 use Rattle.journal_scan.specs.Whole.{AreWhole, Holds, slots_from, slots_of}
 use Rattle.journal_scan.proofs.Stands.{stands as part_stands}
 use Rattle.stable_lines.specs.Journal.{Journal, next_number}
-use Rattle.stable_lines.specs.Progress.{Progress}
-use Rattle.stable_lines.specs.Facts.{Facts, FormerFacts}
-use Rattle.stable_lines.specs.Rolling.{IsBehind, Rolls, rolled}
+use Rattle.stable_lines.specs.Progress.{Progress, landed, lines_with, journal_with}
+use Rattle.stable_lines.specs.Facts.{PendingContents, Facts, StandsAs, as_committed, with_former, with_flight}
+use Rattle.stable_lines.specs.Rolling.{IsBehind, rolled}
 use Rattle.stable_lines.proofs.Lists.{got_right}
-use Rattle.stable_lines.proofs.Rolls.{behind_begins, image_rolls}
+use Rattle.stable_lines.proofs.Rolls.{behind_begins, behind_flight, behind_lands}
 use Rattle.stable_lines.proofs.Stands.{stands}
 use Rattle.member_steps.specs.disk_seats.line_seat.declared.commit.CommitStage.{CommitStage}
 use Rattle.member_steps.specs.disk_seats.line_seat.declared.commit.CommitStage.TheVariants.{Changing, Imaging, Gathering, Sealing, Landing, Committed}
@@ -27,7 +27,7 @@ use Rattle.member_steps.specs.disk_seats.line_seat.Stages.{progress_at}
 use Rattle.member_steps.specs.disk_seats.Ledgers.{Commit, Ledger, progress_of, progress_with}
 use Rattle.member_steps.specs.disk_seats.Members.{LedgerFacts}
 use Rattle.disk_store.specs.Shown.{RollsTo}
-use Rattle.store_copies.specs.Shown.{NumbersFromOne}
+use Rattle.store_copies.specs.Stood.{NumbersFromOne, RollsFrom}
 
 -- ---- what is committed, while a commit is under way
 
@@ -58,6 +58,18 @@ behind-alike base last a b lines journal was = record {
   gives = lines ∙ was.gives ∙ ap (λ (j : Journal). rolled base last j.groups) (sym journal);
 }
 
+-- each image, with or without the group in flight
+image-rolls : (P : PendingContents) (now : Progress) (base : Lines) (last : ℕ) (image : Image) → Facts P now → now.former ≡ None → IsBehind base last now → StandsAs now image → RollsFrom base last image
+image-rolls P now base last image facts none was (as_committed kept) = record {
+  rolls = record { classes = now.classes; lines = now.lines; journal = now.journal; kept = kept; gives = was.gives };
+  below = was.below;
+}
+image-rolls P now base last image facts none was (with_former j is kept) = let bad : None ≡ Some j = sym none ∙ is in absurd (cc)
+image-rolls P now base last image facts none was (with_flight f is kept) = record {
+  rolls = record { classes = f.classes; lines = lines_with now f; journal = journal_with now f; kept = kept; gives = behind_flight P now f is facts base last was };
+  below = (behind_lands P now f is facts base last was).below;
+}
+
 -- ---- what a crash leaves
 
 module _ (v : View) (g : Ledger) (facts : LedgerFacts v g) where
@@ -74,10 +86,10 @@ module _ (v : View) (g : Ledger) (facts : LedgerFacts v g) where
       (λ (old : (former : Journal) × ((progress_of g).former ≡ Some former) × IsHeader (image aij_file 0) former.first). let bad : None ≡ Some old.0 = sym none-former ∙ old.1 in absurd (cc))
       (facts.facts.journal.header (image aij_file 0) (pending aij_file 0))
 
-  pub pending-rolls : (base : Lines) (last : ℕ) → RollsTo base last g.base → (image : Image) → IsPending v image → NumbersFromOne image → Rolls base last image
+  pub pending-rolls : (base : Lines) (last : ℕ) → RollsTo base last g.base → (image : Image) → IsPending v image → NumbersFromOne image → RollsFrom base last image
   pending-rolls base last rolls image pending from =
       let one : 1 ≤ g.base.journal.first = subst (λ (j : Journal). 1 ≤ j.first) same.journal (from (progress_of g).journal.first (header image pending)) in
-      image_rolls (Pending v) (progress_of g) base last image facts.facts none-former
+      image-rolls (Pending v) (progress_of g) base last image facts.facts none-former
       (behind-alike base last (progress_of g) g.base same.lines same.journal (rolls one))
       (stands (Pending v) (progress_of g) facts.facts image pending)
 

@@ -17,20 +17,20 @@ use Rattle.disk_store.specs.Seats.{stand_at, steps_at}
 use Rattle.disk_store.specs.Shown.{Shown, sight_of}
 use Rattle.disk_store.proofs.Agreeing.{agreeing, opening, standing}
 use Rattle.store_copies.specs.Memory.{CopiesMemory, copied_by, is_done}
-use Rattle.store_copies.specs.Shown.{copying_at, seated, steps_with, with_copies, is_reader, AreReaders, ShownWith, copied_sight}
+use Rattle.store_copies.specs.Shown.{copying_at, seated, steps_with, with_copies, is_reader, AllStand, AreReaders, ShownWith, copied_sight}
 use Rattle.store_copies.proofs.Seated.{bare-seated, stand-with}
 
-pub agreeing-with : (v : View) (held : StoreMemory) (copies : CopiesMemory) → Agrees (copied_sight v held copies)
-agreeing-with v held copies h shown s =
+pub agreeing-with : (former v : View) (held : StoreMemory) (copies : CopiesMemory) → Agrees (copied_sight former v held copies)
+agreeing-with former v held copies h shown s =
     bare-seated (copied_by copies s) (stand_at held.members s) (shown.plain.seat s) (agreeing v held shown.plain shown.shown s) ∙ ap (λ (x : Shelf). bare (x.seat s)) (sym shown.is)
 
-pub standing-with : (v : View) (held : StoreMemory) (copies : CopiesMemory) → Stands (copied_sight v held copies)
-standing-with v held copies h shown lines left =
+pub standing-with : (former v : View) (held : StoreMemory) (copies : CopiesMemory) → Stands (copied_sight former v held copies)
+standing-with former v held copies h shown lines left =
     subst (λ (x : Shelf). MayStand x lines) (sym shown.is)
-    (stand-with (copied_by copies) shown.plain lines (standing v held shown.plain shown.shown lines (subst (λ (x : Shelf). (copied_sight v held copies).left x.clock.time lines) shown.is left)))
+    (stand-with (copied_by copies) shown.plain lines (standing v held shown.plain shown.shown lines (subst (λ (x : Shelf). (copied_sight former v held copies).left x.clock.time lines) shown.is left)))
 
-pub opening-with : (v : View) (held : StoreMemory) (copies : CopiesMemory) → MayBeOpened (copied_sight v held copies)
-opening-with v held copies h shown = subst (λ (x : Shelf). (copied_sight v held copies).opens x.clock.time) (sym shown.is) (opening v held shown.plain shown.shown)
+pub opening-with : (former v : View) (held : StoreMemory) (copies : CopiesMemory) → MayBeOpened (copied_sight former v held copies)
+opening-with former v held copies h shown = subst (λ (x : Shelf). (copied_sight former v held copies).opens x.clock.time) (sym shown.is) (opening v held shown.plain shown.shown)
 
 -- ---- steps
 
@@ -50,8 +50,8 @@ steps-few : (c : Option Copying) (steps : ℕ) → steps < 2 ^ 64 → steps_with
 steps-few None steps few = few
 steps-few (Some c) steps few = left-few c.backup.stage c.from
 
-pub counting-with : (v : View) (held : StoreMemory) (copies : CopiesMemory) → ((s : ℕ) → steps_at held.members s < 2 ^ 64) → Counts (copied_sight v held copies)
-counting-with v held copies few = record {
+pub counting-with : (former v : View) (held : StoreMemory) (copies : CopiesMemory) → ((s : ℕ) → steps_at held.members s < 2 ^ 64) → Counts (copied_sight former v held copies)
+counting-with former v held copies few = record {
   same = λ h shown s. ap (steps_with (copied_by copies s)) (sym (shown.shown.steps s)) ∙ ap (λ (x : Shelf). x.steps s) (sym shown.is);
   few = λ s. steps-few (copied_by copies s) (steps_at held.members s) (few s);
 }
@@ -78,14 +78,14 @@ copies-there n (dead commits ws) reads = absurd (cc)
 
 module _ (v : View) (held : StoreMemory) (copies : CopiesMemory) (readers : AreReaders held copies) (s : ℕ) where
   -- who isn't told to copy copies nothing
-  nothing : is_copying ((copied_sight v held copies).stand s) ≡ false → copied_by copies s ≡ None
+  nothing : is_copying (seated (copied_by copies s) (stand_at held.members s)) ≡ false → copied_by copies s ≡ None
   nothing plain = by (copied_by copies s) refl plain
     where
       by : (c : Option Copying) → copied_by copies s ≡ c → is_copying (seated c (stand_at held.members s)) ≡ false → copied_by copies s ≡ None
       by None is other = is
       by (Some c) is other = let bad : true ≡ false = sym (copies-there c.backup.number (stand_at held.members s) (readers s c is)) ∙ other in absurd (cc)
 
-  pub none-outside : (copied_sight v held copies).stand s ≡ outside → copied_by copies s ≡ None
+  pub none-outside : seated (copied_by copies s) (stand_at held.members s) ≡ outside → copied_by copies s ≡ None
   none-outside at = nothing (ap is_copying at)
 
   rests : (seat : Seat) → IsAtRest seat → is_copying seat ≡ false
@@ -104,20 +104,20 @@ module _ (v : View) (held : StoreMemory) (copies : CopiesMemory) (readers : AreR
   reads (copying number start) is = absurd is
   reads seat is = refl
 
-  pub none-resting : IsAtRest ((copied_sight v held copies).stand s) → copied_by copies s ≡ None
-  none-resting is = nothing (rests ((copied_sight v held copies).stand s) is)
+  pub none-resting : IsAtRest (seated (copied_by copies s) (stand_at held.members s)) → copied_by copies s ≡ None
+  none-resting is = nothing (rests (seated (copied_by copies s) (stand_at held.members s)) is)
 
-  pub none-writing : IsWriting ((copied_sight v held copies).stand s) → copied_by copies s ≡ None
-  none-writing is = nothing (writes ((copied_sight v held copies).stand s) is)
+  pub none-writing : IsWriting (seated (copied_by copies s) (stand_at held.members s)) → copied_by copies s ≡ None
+  none-writing is = nothing (writes (seated (copied_by copies s) (stand_at held.members s)) is)
 
-  pub none-prepared : IsPrepared ((copied_sight v held copies).stand s) → copied_by copies s ≡ None
-  none-prepared is = nothing (is-prepared ((copied_sight v held copies).stand s) is)
+  pub none-prepared : IsPrepared (seated (copied_by copies s) (stand_at held.members s)) → copied_by copies s ≡ None
+  none-prepared is = nothing (is-prepared (seated (copied_by copies s) (stand_at held.members s)) is)
 
-  pub none-reading : IsReader ((copied_sight v held copies).stand s) → copied_by copies s ≡ None
-  none-reading is = nothing (reads ((copied_sight v held copies).stand s) is)
+  pub none-reading : IsReader (seated (copied_by copies s) (stand_at held.members s)) → copied_by copies s ≡ None
+  none-reading is = nothing (reads (seated (copied_by copies s) (stand_at held.members s)) is)
 
   -- so it stands as in the store's database
-  pub stands-plain : copied_by copies s ≡ None → (copied_sight v held copies).stand s ≡ stand_at held.members s
+  pub stands-plain : copied_by copies s ≡ None → seated (copied_by copies s) (stand_at held.members s) ≡ stand_at held.members s
   stands-plain none = ap (λ (c : Option Copying). seated c (stand_at held.members s)) none
 
 -- ---- readers stay readers
@@ -163,15 +163,16 @@ outside-plain (Some c) seat is = outside-copying c.backup.number seat is
 pub with-nothing : (copied : ℕ → Option Copying) → ((s : ℕ) → copied s ≡ None) → (h : Shelf) → with_copies copied h ≡ h
 with-nothing copied none h = λ i. record h { seat = λ s. seated (none s i) (h.seat s); steps = λ s. steps_with (none s i) (h.steps s) }
 
-pub shown-plain : (v : View) (held : StoreMemory) (copies : CopiesMemory) → ((s : ℕ) → copied_by copies s ≡ None) → (h : Shelf) → ShownWith v held copies h → Shown v held h
+pub shown-plain : {former : View} (v : View) (held : StoreMemory) (copies : CopiesMemory) → ((s : ℕ) → copied_by copies s ≡ None) → (h : Shelf) → ShownWith former v held copies h → Shown v held h
 shown-plain v held copies none h shown = subst (λ (x : Shelf). Shown v held x) (sym (shown.is ∙ with-nothing (copied_by copies) none shown.plain)) shown.shown
 
-pub plain-shown : (v : View) (held : StoreMemory) (copies : CopiesMemory) → ((s : ℕ) → copied_by copies s ≡ None) → ((n : ℕ) → is_done copies n ≡ false) → (h : Shelf) → Shown v held h → ShownWith v held copies h
-plain-shown v held copies none not-done h shown = record {
+pub plain-shown : {former : View} (v : View) (held : StoreMemory) (copies : CopiesMemory) → ((s : ℕ) → copied_by copies s ≡ None) → ((n : ℕ) → is_done copies n ≡ false) → (h : Shelf) (shown : Shown v held h) → AllStand former v shown.ledger.base → ShownWith former v held copies h
+plain-shown v held copies none not-done h shown all = record {
   plain = h;
   shown = shown;
   is = sym (with-nothing (copied_by copies) none h);
   goes_on = λ s c start own last seat. absurd (none-some c (sym (none s) ∙ own));
   behind = λ s c start own last seat. absurd (none-some c (sym (none s) ∙ own));
   rolling = λ n done. let bad : false ≡ true = sym (not-done n) ∙ done in absurd (cc);
+  standing = λ used n since stood had nobody. all used n since stood had;
 }

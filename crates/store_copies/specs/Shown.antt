@@ -119,6 +119,7 @@ pub record ShownWith (former v : View) (held : StoreMemory) (copies : CopiesMemo
 
 -- Each image that a crash since a moment might have left has the backup whole, of these lines, which fit its limits; and rolled forward over the image's journal they give what the image stands for.
 pub record IsBackedUp (v : View) (number since : ℕ) (lines : Lines) : Type 0 where
+  pub early : since ≤ v.moment
   pub former : Former
   pub classes : ℕ → ℕ
   pub copying : Copying
