@@ -51,23 +51,23 @@ module _ (old w : View) (told : w.tells ≡ old.tells) (left : LeftNow old old.c
     its-journal = begins.groups kept.root kept.is_root.is ∙ in-use kept.root journal used
 
     -- what the backup gives of the image that was opened
-    record Gives : Type 0 where
-      pub below : b.last_group < next_number journal
-      pub gives : lines ≡ rolled b.lines b.last_group journal.groups
+    abbrev Gives : Type 0
+    Gives = (b.last_group < next_number journal) × (lines ≡ rolled b.lines b.last_group journal.groups)
 
     gives-now : 1 ≤ journal.first → Gives
     gives-now one =
         let it : RollsFrom b.lines b.last_group old.content = was.rolls old.content (inr there) (λ first header. subst (λ (n : ℕ). 1 ≤ n) (sym kept.journal.header.fields.1.0 ∙ header.fields.1.0) one) in
         let same : it.rolls.journal ≡ journal = one_journal old.content it.rolls.journal journal it.rolls.kept.journal kept.journal in
-        record {
-          below = subst (λ (j : Journal). b.last_group < next_number j) same it.below;
-          gives = one_lines old.content journal.groups lines it.rolls.lines kept.stands (subst (λ (j : Journal). StandsFor old.content j.groups it.rolls.lines) same it.rolls.kept.stands) ∙ it.rolls.gives ∙ ap (λ (j : Journal). rolled b.lines b.last_group j.groups) same;
-        }
+        (
+          subst (λ (j : Journal). b.last_group < next_number j) same it.below,
+          one_lines old.content journal.groups lines it.rolls.lines kept.stands (subst (λ (j : Journal). StandsFor old.content j.groups it.rolls.lines) same it.rolls.kept.stands)
+          ∙ it.rolls.gives ∙ ap (λ (j : Journal). rolled b.lines b.last_group j.groups) same,
+        )
 
     rolls-kept : (image : Image) → Kept classes lines journal image → NumbersFromOne image → RollsFrom b.lines b.last_group image
     rolls-kept image is from =
         let it : Gives = gives-now (from journal.first is.journal.header) in
-        record { rolls = record { classes = classes; lines = lines; journal = journal; kept = is; gives = it.gives }; below = it.below }
+        record { rolls = record { classes = classes; lines = lines; journal = journal; kept = is; gives = it.1 }; below = it.0 }
 
     rolls-in-use : (image : Image) → StandsInUse classes lines journal kept.root image → NumbersFromOne image → RollsFrom b.lines b.last_group image
     rolls-in-use image (inl is) from = rolls-kept image is from
@@ -77,8 +77,8 @@ module _ (old w : View) (told : w.tells ≡ old.tells) (left : LeftNow old old.c
     rolls-there one =
         let it : Gives = gives-now (subst (λ (j : Journal). 1 ≤ j.first) its-journal one) in
         record {
-          below = subst (λ (j : Journal). b.last_group < next_number j) (sym its-journal) it.below;
-          gives = begins.base ∙ it.gives ∙ ap (λ (j : Journal). rolled b.lines b.last_group j.groups) (sym its-journal);
+          below = subst (λ (j : Journal). b.last_group < next_number j) (sym its-journal) it.0;
+          gives = begins.base ∙ it.1 ∙ ap (λ (j : Journal). rolled b.lines b.last_group j.groups) (sym its-journal);
         }
 
     rolls-left : (image : Image) → IsLeft old classes lines journal kept.root image → NumbersFromOne image → RollsFrom b.lines b.last_group image

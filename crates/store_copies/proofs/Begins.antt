@@ -1,5 +1,5 @@
 -- A session begins to copy what is committed.
-use Rattle.std.proofs.Common.{◌≡◌, ◌≢◌, ◌≤◌, ◌+◌, ◌^◌, ◌==◌, inl, inr, ℕ, Bool, true, false, IsTrue, List, [], Option, Some, None, Result, Ok, Err, OnErr, refl, sym, ap, subst, ◌∙◌, if◌then◌else◌}
+use Rattle.std.proofs.Common.{◌≡◌, ◌≤◌, ◌+◌, ◌^◌, ◌==◌, inl, ℕ, Bool, true, false, IsTrue, List, [], Option, Some, None, Result, Ok, Err, OnErr, refl, sym, ap, subst, ◌∙◌, if◌then◌else◌}
 use Rattle.std.specs.Prelude.{slice_get}
 use Rattle.std.proofs.lemmas.Bool.{eqb-true}
 use Rattle.std.proofs.lemmas.Option.{same_Some, none-some}
@@ -9,15 +9,13 @@ use Rattle.root_file.specs.Root.{AreLimits}
 use Rattle.line_view.specs.Knowledge.{Lines}
 use Rattle.line_store.specs.Seats.{Seat, outside, reading, copying, begun}
 use Rattle.line_store.specs.Shelves.{Shelf}
-use Rattle.line_store.specs.Calls.{Moves}
-use Rattle.line_store.specs.Sights.{bare, Does, Stays, BeginsCopying, BeginsReading, copier_behind}
+use Rattle.line_store.specs.Sights.{bare, Does, BeginsCopying, BeginsReading, copier_behind}
 use Rattle.backup_making.specs.Making.{file_of, Former}
 use Rattle.partial_backup.specs.declared.copying.Copying.{Copying}
 use Rattle.partial_backup.specs.Partial.{IsCopying, IsUntouched, MightHold}
 use Rattle.disk_store.specs.declared.member.Member.{Member}
 use Rattle.disk_store.specs.declared.member.MemberStage.{MemberStage}
 use Rattle.disk_store.specs.declared.member.MemberStage.TheVariants as stage
-use Rattle.disk_store.specs.declared.held.Tables.{Tables}
 use Rattle.disk_store.specs.Memory.{StoreMemory}
 use Rattle.disk_store.specs.Seats.{seat_with, stand_of, stand_at, IsAtStage}
 use Rattle.disk_store.specs.Shown.{DoesOn, RollsOn, RollsTo, Shown}
@@ -25,9 +23,9 @@ use Rattle.disk_store.proofs.Growing.{grow-same}
 use Rattle.disk_store.proofs.Moving.{itself}
 use Rattle.disk_store.proofs.Passing.{none-leaves}
 use Rattle.store_copies.specs.Memory.{CopiesMemory, copied_behind, copied_by, copier_in, done_behind, is_done}
-use Rattle.store_copies.specs.Shown.{seated, with_copies, GoesOn, IsFit, copied_sight}
+use Rattle.store_copies.specs.Shown.{seated, GoesOn, IsFit, copied_sight}
 use Rattle.store_copies.proofs.Fitted.{fit-now}
-use Rattle.store_copies.proofs.Lifted.{Copies, IsAtWork, does-lifted}
+use Rattle.store_copies.proofs.Lifted.{Copies, does-lifted}
 use Rattle.store_copies.proofs.Relations.{moves-to}
 use Rattle.store_copies.proofs.Rolled.{begins-rolling}
 

@@ -1,13 +1,12 @@
 -- What is committed lies on pages of the areas' classes, and fits them.
-use Rattle.std.proofs.Common.{◌≡◌, ◌≤◌, ◌∙◌, ℕ, Bool, true, false, List, length, Some, ⊎_elim, ap, sym, subst, refl, arith}
+use Rattle.std.proofs.Common.{◌≡◌, ◌≤◌, ◌∙◌, ℕ, Bool, true, false, List, length, Some, ⊎_elim, sym, subst, refl, arith}
 use Rattle.rdb_types.specs.declared.keys.Dbkey.{Dbkey}
-use Rattle.rdb_types.specs.declared.keys.Line.{Line}
 use Rattle.rdb_outside.specs.Disk.{View, LeftNow, Pending}
 use Rattle.rdb_page.specs.Lines.{never}
 use Rattle.rdb_page.specs.Page.{IsClass, class_at}
 use Rattle.rdb_page.specs.Whole.{IsUsedPage}
 use Rattle.area_files.specs.Areas.{IsDataPage}
-use Rattle.line_versions.specs.Lines.{storage_area, shown}
+use Rattle.line_versions.specs.Lines.{storage_area}
 use Rattle.line_view.specs.Knowledge.{line_in}
 use Rattle.stable_lines.specs.Slots.{file_of, slot_of, owner_at, has_place, line_on}
 use Rattle.stable_lines.specs.Kept.{FitsClass}

@@ -1,22 +1,21 @@
 -- What a step of a copy does.
-use Rattle.std.proofs.Common.{◌≡◌, ◌≢◌, ◌≤◌, ◌<◌, ◌==◌, ◌⊎◌, inl, inr, ⊎_elim, ℕ, Bool, true, false, IsTrue, List, [], Option, Some, None, Result, Ok, Err, refl, sym, ap, subst, ◌∙◌, arith, if◌then◌else◌}
+use Rattle.std.proofs.Common.{◌≡◌, ◌≢◌, ◌<◌, ◌==◌, ◌⊎◌, inl, inr, ⊎_elim, ℕ, Bool, true, false, IsTrue, [], Option, Some, None, Ok, Err, refl, sym, ap, subst, ◌∙◌, arith, if◌then◌else◌}
 use Rattle.std.specs.Prelude.{slice_get}
 use Rattle.std.proofs.lemmas.Bool.{eqb-true, eqb-false}
 use Rattle.std.proofs.lemmas.Option.{same_Some, none-some}
 use Rattle.rdb_types.specs.declared.file.FileId.{FileId}
 use Rattle.rdb_outside.specs.Causes.{Rose}
-use Rattle.rdb_outside.specs.Disk.{View, Image, LeftNow, LeavesOnly, IsPending, Pending}
+use Rattle.rdb_outside.specs.Disk.{View, LeftNow}
 use Rattle.rdb_outside.specs.Moments.{each_slot}
 use Rattle.rdb_types.specs.declared.keys.Limits.{Limits}
 use Rattle.line_view.specs.Knowledge.{Lines, IsInOrder}
 use Rattle.line_store.specs.declared.answers.Fault.{Fault}
 use Rattle.line_store.specs.declared.answers.Fault.TheVariants.{Failed, Bad}
-use Rattle.line_store.specs.declared.answers.Stepped.{Stepped}
 use Rattle.line_store.specs.declared.answers.Stepped.TheVariants.{More, Done}
-use Rattle.line_store.specs.Seats.{Seat, reading, copying, done_at, failed_at, begun}
+use Rattle.line_store.specs.Seats.{Seat, reading, copying, done_at, failed_at}
 use Rattle.line_store.specs.Shelves.{Shelf}
 use Rattle.line_store.specs.Calls.{GoesOn as Goes, IsDone, Fails, Moves}
-use Rattle.line_store.specs.Sights.{bare, Does, Steps, IsBackedBy, seat_or, stepped_to}
+use Rattle.line_store.specs.Sights.{bare, Does, Steps, IsBackedBy, stepped_to}
 use Rattle.line_store.proofs.Begun.{step-begins}
 use Rattle.line_store.proofs.Causes.{cause-of}
 use Rattle.backup_making.specs.declared.making.Stage.TheVariants.{Ended}

@@ -1,15 +1,12 @@
 -- The lines that a session reads have their places on data pages.
-use Rattle.std.proofs.Common.{◌≡◌, ◌≢◌, ◌≤◌, ◌<◌, ◌∙◌, ◌-◌, ◌%◌, ℕ, List, None, Some, length, inl, inr, ◌⊎◌, sym, ap, subst, arith}
-use Rattle.std.specs.Prelude.{slice_get}
+use Rattle.std.proofs.Common.{◌≡◌, ◌≢◌, ◌≤◌, ◌<◌, ◌∙◌, ◌-◌, ◌%◌, ℕ, List, None, Some, inl, inr, ◌⊎◌, sym, ap, subst, arith}
 use Rattle.rdb_types.specs.declared.keys.Dbkey.{Dbkey}
 use Rattle.rdb_types.specs.declared.keys.Limits.{Limits}
 use Rattle.rdb_outside.specs.Disk.{View, LeftNow}
 use Rattle.rdb_page.specs.Page.{IsOwner, lines_of}
 use Rattle.line_view.specs.Knowledge.{Lines, line_in}
 use Rattle.line_store.specs.area_files.Areas.{IsDataPage}
-use Rattle.line_store.specs.Shelves.{Shelf, seen_by}
-use Rattle.page_table.specs.line_moves.declared.places.Place.{Place}
-use Rattle.page_table.specs.line_moves.Changes.{IsPlaceOf}
+use Rattle.line_store.specs.Shelves.{Shelf}
 use Rattle.page_table.proofs.of_line_moves.Putting.{nat_cases}
 use Rattle.page_table.specs.Pages.{owner_in}
 use Rattle.backup_steps.specs.next_lines.partial_backup.Left.{FitOnPages}

@@ -8,7 +8,7 @@ pub mod Working
 pub mod CopySteps
 mod Committed
 mod OneBackup
-mod Rolled
+pub mod Rolled
 mod Few
 mod Fitted
 pub mod Begins

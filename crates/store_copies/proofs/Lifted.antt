@@ -1,14 +1,13 @@
 -- What a call does to the store's database and memory, it does beside what sessions copy.
-use Rattle.std.proofs.Common.{◌≡◌, ◌≢◌, ◌≤◌, ◌==◌, ◌⊎◌, inl, inr, ⊎_elim, ℕ, Bool, true, false, cond, IsTrue, Option, Some, None, refl, sym, ap, subst, ◌∙◌}
+use Rattle.std.proofs.Common.{◌≡◌, ◌≤◌, ◌==◌, ◌⊎◌, inl, inr, ⊎_elim, ℕ, Bool, true, false, cond, IsTrue, Option, Some, None, refl, sym, ap, subst, ◌∙◌}
 use Rattle.std.proofs.lemmas.Bool.{eqb-true, eqb-false}
 use Rattle.std.proofs.lemmas.Option.{same_Some, none-some}
-use Rattle.std.proofs.Math.Dec.{eqb_refl}
 use Rattle.rdb_outside.specs.Disk.{View, Image, LeavesOnly, LeftNow, IsPending}
 use Rattle.line_view.specs.Knowledge.{Lines}
 use Rattle.line_store.specs.Seats.{Seat, reading, begun}
 use Rattle.line_store.specs.Shelves.{Shelf}
-use Rattle.line_store.specs.Calls.{Lasts, MayStand}
-use Rattle.line_store.specs.Sights.{bare, Sight, Behind, Does, copier_behind}
+use Rattle.line_store.specs.Calls.{Lasts}
+use Rattle.line_store.specs.Sights.{bare, Behind, Does, copier_behind}
 use Rattle.backup_making.specs.Making.{file_of}
 use Rattle.partial_backup.specs.declared.copying.Copying.{Copying}
 use Rattle.partial_backup.specs.Partial.{IsUntouched}

@@ -6,7 +6,6 @@ use Rattle.line_view.specs.Knowledge.{Lines}
 use Rattle.stable_lines.specs.Progress.{Progress}
 use Rattle.line_store.specs.Shelves.{Shelf}
 use Rattle.backup_file.specs.declared.header.BackupHead.{BackupHead}
-use Rattle.backup_file.specs.declared.line.BackupLine.{BackupLine}
 use Rattle.backup_file.specs.Whole.{Stores, lines_in}
 use Rattle.backup_file.proofs.Unique.{same_head, same_lines}
 use Rattle.backup_making.specs.declared.making.Backup.{Backup}

@@ -1,9 +1,7 @@
 -- Copies and backups behind calls that leave their files as they are.
-use Rattle.std.proofs.Common.{◌≡◌, ◌≤◌, ◌+◌, ◌⊎◌, ⊎_elim, inl, inr, ℕ, Bool, IsTrue, List, refl, sym, subst, arith}
-use Rattle.std.specs.Prelude.{slice_get}
-use Rattle.rdb_types.specs.declared.keys.Dbkey.{Dbkey}
+use Rattle.std.proofs.Common.{◌≡◌, ◌≤◌, ◌+◌, ◌⊎◌, ⊎_elim, inl, inr, ℕ, Bool, IsTrue, refl, sym, subst, arith}
 use Rattle.rdb_outside.specs.Disk.{View, Image, LeavesOnly, IsPending, Pending}
-use Rattle.backup_file.specs.Whole.{lines_in, Stores}
+use Rattle.backup_file.specs.Whole.{lines_in}
 use Rattle.line_view.specs.Knowledge.{Lines}
 use Rattle.backup_making.specs.declared.making.Stage.{Stage}
 use Rattle.backup_making.specs.declared.making.Stage.TheVariants.{Ended}

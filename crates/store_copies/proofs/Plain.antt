@@ -1,5 +1,5 @@
 -- Calls of a session that copies nothing, beside the copies of others.
-use Rattle.std.proofs.Common.{◌≡◌, ◌==◌, ◌⊎◌, inl, inr, ℕ, Bool, true, false, IsTrue, List, [], Option, Some, None, Result, refl, sym, ap, subst, ◌∙◌}
+use Rattle.std.proofs.Common.{◌≡◌, ◌==◌, ◌⊎◌, ℕ, Bool, true, false, IsTrue, Option, Some, None, refl, sym, ap, subst, ◌∙◌}
 use Rattle.std.proofs.lemmas.Bool.{eqb-true}
 use Rattle.std.proofs.lemmas.Option.{none-some}
 use Rattle.rdb_outside.specs.Disk.{View, LeavesOnly, LeftNow, IsPending, OnlyReads}
@@ -8,7 +8,6 @@ use Rattle.rdb_types.specs.declared.keys.Dbkey.{Dbkey}
 use Rattle.line_store.specs.Rooms.{Takes}
 use Rattle.line_store.specs.Shelves.{Shelf}
 use Rattle.line_store.proofs.Begun.{begun-same}
-use Rattle.line_store.specs.Calls.{Moves}
 use Rattle.line_store.specs.Sights.{bare, Does, Dies, Stays}
 use Rattle.backup_making.specs.Making.{file_of}
 use Rattle.partial_backup.specs.declared.copying.Copying.{Copying}

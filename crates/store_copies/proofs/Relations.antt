@@ -1,7 +1,6 @@
 -- What a call of a session that copies nothing does, beside what others copy.
-use Rattle.std.proofs.Common.{◌≡◌, ◌<◌, ◌≤◌, ◌==◌, ℕ, Bool, true, false, List, Option, Some, None, Result, Ok, Err, refl, sym, ap, subst, ◌∙◌}
+use Rattle.std.proofs.Common.{◌≡◌, ◌<◌, ◌==◌, ℕ, true, false, List, Option, None, Result, Ok, Err, sym, ap, subst, ◌∙◌}
 use Rattle.line_view.specs.declared.writes.Write.{Write}
-use Rattle.line_view.specs.Writes.{laid_all}
 use Rattle.rdb_types.specs.declared.keys.Dbkey.{Dbkey}
 use Rattle.line_store.specs.declared.answers.Fault.{Fault}
 use Rattle.line_store.specs.declared.answers.Progress.{Progress}

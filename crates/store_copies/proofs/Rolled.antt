@@ -6,7 +6,6 @@ use Rattle.rdb_outside.specs.Disk.{View, Image, LeftNow, IsPending, Pending}
 use Rattle.rdb_outside.specs.Moments.{each_slot}
 use Rattle.line_view.specs.Knowledge.{Lines}
 use Rattle.line_moves.specs.new_database.aij_journal.Header.{IsHeader}
-use Rattle.line_moves.specs.new_database.aij_journal.Part.{IsPart}
 use Rattle.line_moves.specs.new_database.aij_journal.declared.part.AijPart.{AijPart}
 use Rattle.line_moves.specs.new_database.aij_journal.declared.part.GroupLine.{GroupLine}
 use Rattle.line_moves.specs.new_database.Maker.{aij_file}
@@ -15,7 +14,7 @@ use Rattle.journal_scan.specs.Standing.{what_stands}
 use Rattle.journal_scan.specs.Whole.{AreWhole, Holds, slots_from, slots_of}
 use Rattle.journal_scan.proofs.Stands.{stands as part_stands}
 use Rattle.stable_lines.specs.Journal.{Journal, next_number}
-use Rattle.stable_lines.specs.Progress.{Progress, landed, lines_with, journal_with}
+use Rattle.stable_lines.specs.Progress.{Progress, lines_with, journal_with}
 use Rattle.stable_lines.specs.Facts.{PendingContents, Facts, StandsAs, as_committed, with_former, with_flight}
 use Rattle.stable_lines.specs.Rolling.{IsBehind, rolled}
 use Rattle.stable_lines.proofs.Lists.{got_right}

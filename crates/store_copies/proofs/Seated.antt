@@ -1,9 +1,7 @@
 -- Where a session stands that copies, and what a shelf has beside that.
-use Rattle.std.proofs.Common.{◌≡◌, ◌==◌, ℕ, Bool, true, false, cond, Option, Some, None, refl, sym, ap, subst, ◌∙◌, ◌⊎◌, inl, inr, sum_by}
+use Rattle.std.proofs.Common.{◌≡◌, ◌==◌, ℕ, Option, Some, None, refl, sym, ap, ◌∙◌, inl, inr, sum_by}
 use Rattle.std.specs.Prelude.{if◌then◌else◌}
-use Rattle.line_view.specs.declared.writes.Write.{Write}
 use Rattle.line_view.specs.Knowledge.{Lines}
-use Rattle.line_view.specs.Writes.{laid_all}
 use Rattle.line_store.specs.Seats.{Seat, outside, beginning, writing, changing, broken, prepared, committing, rolling_back, closing, reading, copying, dead, in_flight, members, set_aside}
 use Rattle.line_store.specs.Shelves.{Shelf, seen_from, seen_by, set_aside_beside}
 use Rattle.line_store.specs.Calls.{MayStand}

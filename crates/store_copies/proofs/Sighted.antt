@@ -1,9 +1,8 @@
 -- What a store with copies shows agrees with its memory, and what a crash leaves of it.
-use Rattle.std.proofs.Common.{◌≡◌, ◌≤◌, ◌<◌, ◌+◌, ◌-◌, ◌^◌, ℕ, Bool, true, false, List, [], Option, Some, None, refl, sym, ap, subst, ◌∙◌, arith}
+use Rattle.std.proofs.Common.{◌≡◌, ◌≤◌, ◌<◌, ◌^◌, ℕ, Bool, true, false, Option, Some, None, refl, sym, ap, subst, ◌∙◌, arith}
 use Rattle.std.proofs.lemmas.Option.{none-some}
 use Rattle.rdb_types.specs.declared.keys.Dbkey.{Dbkey}
 use Rattle.rdb_outside.specs.Disk.{View}
-use Rattle.line_view.specs.Knowledge.{Lines}
 use Rattle.line_store.specs.Seats.{Seat, outside, beginning, writing, changing, broken, prepared, committing, rolling_back, closing, reading, copying, dead, IsAtRest, IsPrepared, IsReader, IsWriting}
 use Rattle.line_store.specs.Shelves.{Shelf}
 use Rattle.line_store.specs.Calls.{MayStand}
@@ -11,10 +10,10 @@ use Rattle.line_store.specs.Sights.{bare, Agrees, Counts, MayBeOpened, Stands}
 use Rattle.backup_making.specs.declared.making.Stage.{Stage}
 use Rattle.backup_making.specs.declared.making.Stage.TheVariants.{Begun, Blanked, Open, Closed, Headed, Ended}
 use Rattle.partial_backup.specs.declared.copying.Copying.{Copying}
-use Rattle.backup_steps.specs.Steps.{left_at, keys_left, steps_left}
+use Rattle.backup_steps.specs.Steps.{left_at, keys_left}
 use Rattle.disk_store.specs.Memory.{StoreMemory}
 use Rattle.disk_store.specs.Seats.{stand_at, steps_at}
-use Rattle.disk_store.specs.Shown.{Shown, sight_of}
+use Rattle.disk_store.specs.Shown.{Shown}
 use Rattle.disk_store.proofs.Agreeing.{agreeing, opening, standing}
 use Rattle.store_copies.specs.Memory.{CopiesMemory, copied_by, is_done}
 use Rattle.store_copies.specs.Shown.{copying_at, seated, steps_with, with_copies, is_reader, AllStand, AreReaders, ShownWith, copied_sight}

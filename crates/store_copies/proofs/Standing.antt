@@ -10,7 +10,6 @@ use Rattle.backup_making.specs.Making.{file_of, head_of, slots_of}
 use Rattle.partial_backup.specs.Left.{FitOnPages, HasCopied}
 use Rattle.partial_backup.proofs.Standing.{whole}
 use Rattle.disk_store.specs.Memory.{StoreMemory}
-use Rattle.disk_store.specs.Shown.{RollsTo}
 use Rattle.store_copies.specs.Memory.{CopiesMemory, copier_in}
 use Rattle.store_copies.specs.Shown.{IsBackedUp, IsBacked, ShownWith}
 use Rattle.store_copies.specs.Stood.{HasBackup, IsInUse, IsWholeOf, Stood}
@@ -30,29 +29,31 @@ whole-of classes lines b number number-is pages limited ordered image copied = r
   last = refl;
 }
 
-
 module _ {former : View} (v : View) (held : StoreMemory) (copies : CopiesMemory) (h : Shelf) (shown : ShownWith former v held copies h) where
-  -- a backup that the store has whole stands
-  pub has-backup : (number since : ℕ) (lines : Lines) (it : IsBacked v copies number since lines) → (IsTrue v.tells → LeftNow v v.content)
-      → HasBackup v number since (record { classes = it.whole.classes; lines = lines; last_group = it.whole.copying.backup.last_group })
-  has-backup number since lines it reads = record {
-    tells = shown.shown.tells;
-    early = up.early;
-    left = λ image left. made image (up.left image left);
-    pending = λ slots each. made (λ file i. slots i) (ended-slots up.former up.classes lines v up.copying up.ended up.is (λ file i. slots i)
-        (λ i. subst (λ (n : ℕ). Pending v (file_of n) i (slots i)) (sym up.number_is) (each i)));
-    rolls = λ image left from. ⊎_elim (λ old. up.rolls image old from)
-        (λ pending. pending-rolls v shown.shown.ledger shown.shown.facts lines up.copying.backup.last_group rolls image pending from) left;
-  }
-    where
-      abbrev up : IsBackedUp v number since lines
-      up = it.whole
+  module _ (number since : ℕ) (lines : Lines) (it : IsBacked v copies number since lines) where
+    abbrev up : IsBackedUp v number since lines
+    up = it.whole
 
-      rolls : RollsTo lines up.copying.backup.last_group shown.shown.ledger.base
-      rolls = rolls-whole v held copies h shown reads number since lines up it.done
+    abbrev stood : Stood
+    stood = record { classes = up.classes; lines = lines; last_group = up.copying.backup.last_group }
 
-      made : (image : Image) → HasCopied up.classes lines up.copying.backup image → IsWholeOf (record { classes = up.classes; lines = lines; last_group = up.copying.backup.last_group }) (slots_of image (file_of number))
-      made image copied = whole-of up.classes lines up.copying.backup number up.number_is up.pages up.limited up.ordered image copied
+    made : (image : Image) → HasCopied up.classes lines up.copying.backup image → IsWholeOf stood (slots_of image (file_of number))
+    made image copied = whole-of up.classes lines up.copying.backup number up.number_is up.pages up.limited up.ordered image copied
+
+    in-slots : (slots : ℕ → List ℕ) → ((i : ℕ) → Pending v (file_of number) i (slots i)) → HasCopied up.classes lines up.copying.backup (λ file i. slots i)
+    in-slots slots each = ended-slots up.former up.classes lines v up.copying up.ended up.is (λ file i. slots i)
+        (λ i. subst (λ (n : ℕ). Pending v (file_of n) i (slots i)) (sym up.number_is) (each i))
+
+    -- a backup that the store has whole stands
+    pub has-backup : (IsTrue v.tells → LeftNow v v.content) → HasBackup v number since stood
+    has-backup reads = record {
+      tells = shown.shown.tells;
+      early = up.early;
+      left = λ image left. made image (up.left image left);
+      pending = λ slots each. made (λ file i. slots i) (in-slots slots each);
+      rolls = λ image left from. ⊎_elim (λ old. up.rolls image old from)
+          (λ pending. pending-rolls v shown.shown.ledger shown.shown.facts lines up.copying.backup.last_group (rolls-whole v held copies h shown reads number since lines up it.done) image pending from) left;
+    }
 
   -- and so does one that stood before the store was opened, where nobody began one of its number
   pub stands-still-whole : IsInUse former → (number since : ℕ) (b : Stood) → HasBackup former number since b → copier_in copies number ≡ None → HasBackup v number since b

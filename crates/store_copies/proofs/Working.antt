@@ -1,14 +1,12 @@
 -- A session that copies, and what a step of its copy needs.
-use Rattle.std.proofs.Common.{◌≡◌, ◌≤◌, ◌^◌, ℕ, IsTrue, List, Option, Some, sym, ap, subst, ◌∙◌, arith}
+use Rattle.std.proofs.Common.{◌≡◌, ◌≤◌, ◌^◌, ℕ, Option, Some, ap, subst, ◌∙◌, arith}
 use Rattle.std.specs.Prelude.{slice_get}
 use Rattle.rdb_outside.specs.Disk.{View, LeftNow}
-use Rattle.line_view.specs.declared.writes.Write.{Write}
 use Rattle.line_view.specs.Knowledge.{Lines}
 use Rattle.line_versions.specs.Versions.{Start}
 use Rattle.line_store.specs.Seats.{Seat, reading}
-use Rattle.line_store.specs.Shelves.{Shelf, seen_by, seen_from}
+use Rattle.line_store.specs.Shelves.{Shelf, seen_from}
 use Rattle.backup_steps.specs.Copies.{MayBeCopied}
-use Rattle.backup_steps.specs.reader_lines.Readers.{IsReader}
 use Rattle.copies_beside.specs.Read.{IsReadBy}
 use Rattle.copies_beside.proofs.Readers.{is_read}
 use Rattle.member_memory.specs.Memory.{writes_in}

@@ -1,10 +1,8 @@
-use Rattle.std.proofs.Common.{◌≡◌, ℕ, IsTrue, Option, Some, None, Err, ap, subst, sym, ◌∙◌, refl, arith}
-use Rattle.std.specs.Prelude.{slice_get}
+use Rattle.std.proofs.Common.{◌≡◌, IsTrue, Some, None, Err, ap, subst, sym, ◌∙◌, refl, arith}
 use Rattle.std.proofs.lemmas.Option.{same_Some, none-some}
 use Rattle.rdb_types.specs.declared.keys.Limits.{Limits}
 use Rattle.rdb_outside.specs.Disk.{LeftNow}
 use Rattle.backup_making.specs.Making.{file_of}
-use Rattle.backup_steps.specs.next_lines.Next.{Leads}
 use Rattle.backup_steps.specs.reader_lines.Readers.{IsReader}
 use Rattle.partial_backup.specs.declared.copying.Copying.{Copying}
 use Rattle.disk_store.specs.declared.held.Tables.{Tables}
