@@ -188,7 +188,7 @@ module _ (v : View) (t : IsTrue v.tells) (left : LeftNow v v.content) (stable : 
 
   -- ---- what is shown
 
-  numbers-stand : NumbersStand v ledger held.numbers held.next
+  pub numbers-stand : NumbersStand v ledger held.numbers held.next
   numbers-stand = record {
     number = sym has.next;
     first = let below = facts.below.header 1 (v.content (ruj_file 1) 0) (record { first = omega arith; last = omega arith }) (each_slot v v.content left (ruj_file 1) 0) in let next = has.next in omega (arith, below, next);
@@ -201,7 +201,7 @@ module _ (v : View) (t : IsTrue v.tells) (left : LeftNow v v.content) (stable : 
     group = has.group;
   }
 
-  tables-stand : TablesStand v ledger held.tables
+  pub tables-stand : TablesStand v ledger held.tables
   tables-stand = record {
     committed = has-committed;
     classes = by_area;
@@ -210,7 +210,7 @@ module _ (v : View) (t : IsTrue v.tells) (left : LeftNow v v.content) (stable : 
     owned = λ place area is within data_page whose x p some. owner-is place area is within data_page whose x p some;
   }
 
-  versions-stand : VersionsStand v ledger held (first_shelf v held lines)
+  pub versions-stand : VersionsStand v ledger held (first_shelf v held lines)
   versions-stand =
       let course : Course = opened base.next_tsn (line_at v.content) (λ key. line_in key base.lines) in
       record {
@@ -225,7 +225,7 @@ module _ (v : View) (t : IsTrue v.tells) (left : LeftNow v v.content) (stable : 
         unused = λ file key owner never. never-used v.content file start.root.limits.pages (pages_of held.tables file) formed (has.tables file (area-of file key.area owner)) key owner never;
       }
 
-  space-stands : SpaceStands held (first_shelf v held lines).space
+  pub space-stands : SpaceStands held (first_shelf v held lines).space
   space-stands = record {
     limits = refl;
     pages = record { taken = λ file page. refl; limit = λ file. tables-long v.content start.root.limits.pages held.tables has.tables file ∙ ap (λ (l : Limits). l.pages) (sym has.limits) };
@@ -233,7 +233,7 @@ module _ (v : View) (t : IsTrue v.tells) (left : LeftNow v v.content) (stable : 
     slots = refl;
   }
 
-  lines-shown : ShowsLines v ledger (first_shelf v held lines)
+  pub lines-shown : ShowsLines v ledger (first_shelf v held lines)
   lines-shown = record { now = refl; time = refl; faults = refl; flight = λ c is. let bad : None ≡ Some c = is in absurd (cc) }
 
   abbrev pub first-shown : Shown v held (first_shelf v held lines)
