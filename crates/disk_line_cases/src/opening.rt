@@ -7,10 +7,11 @@ use rdb_outside::MemoryDisk;
 use rdb_types::Limits;
 use root_file::are_limits;
 use std::alloc::Global;
+use std::marker::Brand;
 use store_desk::Desk;
 
 /// A store on a disk in memory, of whose sessions it is known where they stand.
-pub type Opened = Desk<DiskStore<MemoryDisk>>;
+pub type Opened = Desk<DiskStore<Brand, MemoryDisk>>;
 
 /// Opens the database on a disk.
 pub fn opened(alloc: Global, disk: MemoryDisk) -> Option<Opened> {

@@ -1,5 +1,5 @@
 -- What is true of a disk that a store has given back.
-use Rattle.std.specs.Prelude.{ℕ, ◌≡◌, None}
+use Rattle.std.specs.Prelude.{ℕ, ◌≡◌, ◌≤◌, None}
 use Rattle.rdb_outside.specs.Disk.{View}
 use Rattle.line_view.specs.Knowledge.{Lines}
 use Rattle.line_store.specs.Seats.{outside}
@@ -31,5 +31,5 @@ pub record IsBack (former : View) (sight : Sight) (v : View) : Type 0 where
   pub left : (t : ℕ) (lines : Lines) → Leaves v t lines → sight.left t lines
   pub opens : (t : ℕ) → sight.opens t → AllOpen v t
   pub stand : (s : ℕ) → sight.stand s ≡ outside → stand_at held.members s ≡ outside
-  pub backed : (h : Shelf) → sight.shows h → (number since : ℕ) (lines : Lines) → sight.backed number since lines → IsBackedUp v number since lines
+  pub backed : (h : Shelf) → sight.shows h → (number since : ℕ) (lines : Lines) → since ≤ h.clock.time → sight.backed number since lines → IsBackedUp v number since lines
   pub standing : (h : Shelf) → sight.shows h → IsInUse former → (number since : ℕ) (b : Stood) → HasBackup former number since b → sight.copier number ≡ None → HasBackup v number since b

@@ -5,3 +5,4 @@ mod stepping;
 mod store;
 
 pub use store::DiskStore;
+pub use store_copies::FormerDisk;

@@ -75,13 +75,13 @@ impl<O: FormerDisk, D: Disk + Drop> LineStore for DiskStore<O, D> {
 
     ghost sight = { λ store. copied_sight O.former (D.view store.disk) store.held store.copies };
 
-    ghost agrees = { λ store. agreeing-with (D.view store.disk) store.held store.copies };
+    ghost agrees = { λ store. agreeing-with O.former (D.view store.disk) store.held store.copies };
 
-    ghost counts = { λ store. counting-with (D.view store.disk) store.held store.copies store.few };
+    ghost counts = { λ store. counting-with O.former (D.view store.disk) store.held store.copies store.few };
 
-    ghost stands = { λ store. standing-with (D.view store.disk) store.held store.copies };
+    ghost stands = { λ store. standing-with O.former (D.view store.disk) store.held store.copies };
 
-    ghost opens = { λ store. opening-with (D.view store.disk) store.held store.copies };
+    ghost opens = { λ store. opening-with O.former (D.view store.disk) store.held store.copies };
 
     fn begin(&mut self, s: Session) {
         let held = &mut self.held;

@@ -54,8 +54,8 @@ pub struct DiskPlan {
 }
 
 // The store of a new database on a disk in memory, of whose device calls this one fails.
-fn opened(alloc: Global, limits: Limits, fails: u32) -> Option<DiskStore<MemoryDisk>>
-    ensures { IfSome result (λ store. (s : ℕ) → (⟦<DiskStore<MemoryDisk> as LineStore>⟧.sight store).stand s ≡ outside) }
+fn opened(alloc: Global, limits: Limits, fails: u32) -> Option<DiskStore<Brand, MemoryDisk>>
+    ensures { IfSome result (λ store. (s : ℕ) → (⟦<DiskStore<Brand, MemoryDisk> as LineStore>⟧.sight store).stand s ≡ outside) }
 {
     if !are_limits(&limits) {
         return None;
@@ -72,8 +72,8 @@ fn calls_before(alloc: Global, limits: Limits) -> Option<u32> {
     u32::try_from(store.disk().moment().number).ok()
 }
 
-fn store_on_disk(alloc: Global, plan: DiskPlan) -> Option<DiskStore<MemoryDisk>>
-    ensures { IfSome result (λ store. (s : ℕ) → (⟦<DiskStore<MemoryDisk> as LineStore>⟧.sight store).stand s ≡ outside) }
+fn store_on_disk(alloc: Global, plan: DiskPlan) -> Option<DiskStore<Brand, MemoryDisk>>
+    ensures { IfSome result (λ store. (s : ℕ) → (⟦<DiskStore<Brand, MemoryDisk> as LineStore>⟧.sight store).stand s ≡ outside) }
 {
     match plan.fails {
         None => opened(alloc, plan.limits, 0),
@@ -99,7 +99,7 @@ pub fn run_on_disk(
     let Some(store) = store_on_disk(alloc, plan) else {
         return out.extend(b"  not opened\n");
     };
-    run::<Brand, ReservingStatements, DiskStore<MemoryDisk>>(
+    run::<Brand, ReservingStatements, DiskStore<Brand, MemoryDisk>>(
         alloc,
         store,
         Scripts::new(scripts),

@@ -9,4 +9,7 @@ pub returns-clause-outside : goal.returns-clause-outside
 returns-clause-outside g c s = ap (λ (x : Option Copying). seated x (stand_at c.args.held.members s)) (c.new-copies.ensures.nothing s) ∙ c.requires s
 
 pub returns-clause-shows : goal.returns-clause-shows
-returns-clause-shows g c h = (shown-plain (g.D.Disk.view c.args.disk) c.args.held c.new-copies.result c.new-copies.ensures.nothing h, plain-shown (g.D.Disk.view c.args.disk) c.args.held c.new-copies.result c.new-copies.ensures.nothing c.new-copies.ensures.none_done h)
+returns-clause-shows g c h shown stand = plain-shown (g.D.Disk.view c.args.disk) c.args.held c.new-copies.result c.new-copies.ensures.nothing c.new-copies.ensures.none_done h shown stand
+
+pub returns-clause-plain : goal.returns-clause-plain
+returns-clause-plain g c h shown = shown-plain (g.D.Disk.view c.args.disk) c.args.held c.new-copies.result c.new-copies.ensures.nothing h shown

@@ -40,6 +40,7 @@ returns-clause-knows g c h shown =
 
 pub returns-clause-read : goal.returns-clause-read
 returns-clause-read g c =
+    let former = g.O.FormerDisk.former in
     let v = g.D.Disk.view c.args.self.now.disk in
     let reads : IsTrue v.tells → LeftNow v v.content = λ tells. g.met.D.Disk.content_left c.args.self.now.disk v.moment tells (omega arith) in
     let s = c.args.s.number in
@@ -48,5 +49,5 @@ returns-clause-read g c =
     let none = none-resting v held copies c.args.self.now.readers s c.requires.seat in
     let w = g.D.Disk.view c.learn_area.new.disk in
     let there = stand_at held.members s in
-    subst (λ (seat : Seat). Does s seat (λ h k. IsRead s h k c.learn_area.result) (copied_sight v held copies) (copied_sight w held copies)) (sym (stands-plain v held copies c.args.self.now.readers s none))
+    subst (λ (seat : Seat). Does s seat (λ h k. IsRead s h k c.learn_area.result) (copied_sight former v held copies) (copied_sight former w held copies)) (sym (stands-plain v held copies c.args.self.now.readers s none))
     (looked v w held held copies s none (leaves-reads v w reads c.learn_area.ensures.only_reads) (grow-same held.tables held.tables refl) there c.learn_area.result (begun-same (copied_at there)) c.learn_area.ensures.read)

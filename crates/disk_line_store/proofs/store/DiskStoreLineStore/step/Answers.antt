@@ -42,6 +42,7 @@ invariant_of-self-2 g c =
 
 pub returns-clause-comes : goal.returns-clause-comes
 returns-clause-comes g c =
+    let former = g.O.FormerDisk.former in
     let v = g.D.Disk.view c.args.self.now.disk in
     let reads : IsTrue v.tells → LeftNow v v.content = λ tells. g.met.D.Disk.content_left c.args.self.now.disk v.moment tells (omega arith) in
     let w = g.D.Disk.view c.step-stepped.new.disk in
@@ -51,5 +52,5 @@ returns-clause-comes g c =
     let copies = c.args.self.now.copies in
     let result = c.step-stepped.result in
     let none : copied_by copies s ≡ None = sym c.of.ensures.is ∙ none-of c.of.result (sym c.is_some.ensures ∙ c.if-is_some.false) in
-    subst (λ (seat : Seat). Does s (stepped_to seat result) (Steps s result) (copied_sight v held copies) (copied_sight w behind copies)) (sym (stands-plain v held copies c.args.self.now.readers s none))
+    subst (λ (seat : Seat). Does s (stepped_to seat result) (Steps s result) (copied_sight former v held copies) (copied_sight former w behind copies)) (sym (stands-plain v held copies c.args.self.now.readers s none))
     (stepped v w held behind copies s none (leaves-own v w reads c.step-stepped.ensures.writes) c.step-stepped.ensures.grows (stepped_to (stand_at held.members s) result) result (step-begins (stand_at held.members s) result) c.step-stepped.ensures.comes)
