@@ -127,7 +127,7 @@ module _ (held : StoreMemory) (before : CopiesMemory) (s : ℕ) (were : AreReade
 
 -- ---- calls of a session that copies nothing
 
-module _ {former : View} (v w : View) (held behind : StoreMemory) (copies : CopiesMemory) (s : ℕ) (none : copied_by copies s ≡ None) (left : Leaves v w) (grows : Grow held.tables behind.tables) where
+module _ (v w : View) (held behind : StoreMemory) (copies : CopiesMemory) (s : ℕ) (none : copied_by copies s ≡ None) (left : Leaves v w) (grows : Grow held.tables behind.tables) where
   abbrev with : Shelf → Shelf
   with h = with_copies (copied_by copies) h
 
@@ -135,13 +135,13 @@ module _ {former : View} (v w : View) (held behind : StoreMemory) (copies : Copi
   still t apart = refl
 
   -- it moves to a seat that the shelf says
-  pub moved : (there : Seat) (to : Shelf → Seat) → begun (stand_at held.members s) there ≡ None → ((h : Shelf) → to (with h) ≡ to h) → DoesOn s there (λ h g. Moves s (to h) h g) v held w behind
+  pub moved : {former : View} (there : Seat) (to : Shelf → Seat) → begun (stand_at held.members s) there ≡ None → ((h : Shelf) → to (with h) ≡ to h) → DoesOn s there (λ h g. Moves s (to h) h g) v held w behind
       → Does s there (λ h g. Moves s (to h) h g) (copied_sight former v held copies) (copied_sight former w behind copies)
   moved there to begins same does = does-with v w held behind copies s none left grows there (λ h g. Moves s (to h) h g) (λ h g. Moves s (to h) h g) begins
       (λ h g moves t apart. moves.others.seat t apart)
       (λ h g moves. subst (λ (seat : Seat). Moves s seat (with h) (with g)) (sym (same h)) (moves-with (copied_by copies) (copied_by copies) s still none none (to h) h g moves)) does
 
-  pub changed : (there : Seat) (more : List Write) → begun (stand_at held.members s) there ≡ None → DoesOn s there (λ h g. Changes s more h g) v held w behind
+  pub changed : {former : View} (there : Seat) (more : List Write) → begun (stand_at held.members s) there ≡ None → DoesOn s there (λ h g. Changes s more h g) v held w behind
       → Does s there (λ h g. Changes s more h g) (copied_sight former v held copies) (copied_sight former w behind copies)
   changed there more begins does = does-with v w held behind copies s none left grows there (λ h g. Changes s more h g) (λ h g. Changes s more h g) begins
       (λ h g changes t apart. changes.others.seat t apart)
@@ -153,7 +153,7 @@ module _ {former : View} (v w : View) (held behind : StoreMemory) (copies : Copi
   reads-keep (Err read.NoMemory) h g is t apart = is.others.seat t apart
   reads-keep (Err (read.Fault fault)) h g is t apart = is.moves.others.seat t apart
 
-  pub looked : (there : Seat) (result : Result Progress ReadStop) → begun (stand_at held.members s) there ≡ None → DoesOn s there (λ h g. IsRead s h g result) v held w behind
+  pub looked : {former : View} (there : Seat) (result : Result Progress ReadStop) → begun (stand_at held.members s) there ≡ None → DoesOn s there (λ h g. IsRead s h g result) v held w behind
       → Does s there (λ h g. IsRead s h g result) (copied_sight former v held copies) (copied_sight former w behind copies)
   looked there result begins does = does-with v w held behind copies s none left grows there (λ h g. IsRead s h g result) (λ h g. IsRead s h g result) begins
       (λ h g is t apart. reads-keep result h g is t apart)
@@ -167,7 +167,7 @@ module _ {former : View} (v w : View) (held behind : StoreMemory) (copies : Copi
   comes-keep (Ok (Recovered false moment)) h g is t apart = is.moves.others.seat t apart
   comes-keep (Err fault) h g is t apart = is.moves.others.seat t apart
 
-  pub stepped : (there : Seat) (result : Result Stepped Fault) → begun (stand_at held.members s) there ≡ None → DoesOn s there (λ h g. Comes s h g result) v held w behind
+  pub stepped : {former : View} (there : Seat) (result : Result Stepped Fault) → begun (stand_at held.members s) there ≡ None → DoesOn s there (λ h g. Comes s h g result) v held w behind
       → Does s there (λ h g. Comes s h g result) (copied_sight former v held copies) (copied_sight former w behind copies)
   stepped there result begins does = does-with v w held behind copies s none left grows there (λ h g. Comes s h g result) (λ h g. Comes s h g result) begins
       (λ h g is t apart. comes-keep result h g is t apart)
@@ -175,33 +175,33 @@ module _ {former : View} (v w : View) (held behind : StoreMemory) (copies : Copi
 
 -- ---- what a session sees
 
-module _ {former : View} (v : View) (held : StoreMemory) (copies : CopiesMemory) (s : ℕ) where
+module _ (v : View) (held : StoreMemory) (copies : CopiesMemory) (s : ℕ) where
   -- as without the copies
-  pub seen-same : (h : Shelf) (shown : ShownWith former v held copies h) → seen_by s h ≡ seen_by s shown.plain
+  pub seen-same : {former : View} (h : Shelf) (shown : ShownWith former v held copies h) → seen_by s h ≡ seen_by s shown.plain
   seen-same h shown = ap (λ (x : Shelf). seen_by s x) shown.is ∙ seen-with (copied_by copies) shown.plain s
 
-  pub learns-line : (key : Dbkey) (old new : Known) → LearnsLine (sight_of v held) s key old new → LearnsLine (copied_sight former v held copies) s key old new
+  pub learns-line : {former : View} (key : Dbkey) (old new : Known) → LearnsLine (sight_of v held) s key old new → LearnsLine (copied_sight former v held copies) s key old new
   learns-line key old new learns = record {
     image = learns.image;
     learnt = learns.learnt;
     seen = λ h shown. learns.seen shown.plain shown.shown ∙ ap (λ (lines : Lines). line_in key lines) (sym (seen-same h shown));
   }
 
-  pub learns-area : (area : ℕ) (old new : Known) → LearnsArea (sight_of v held) s area old new → LearnsArea (copied_sight former v held copies) s area old new
+  pub learns-area : {former : View} (area : ℕ) (old new : Known) → LearnsArea (sight_of v held) s area old new → LearnsArea (copied_sight former v held copies) s area old new
   learns-area area old new learns = record {
     lines = learns.lines;
     learnt = learns.learnt;
     seen = λ h shown. learns.seen shown.plain shown.shown ∙ ap (λ (lines : Lines). lines_in area lines) (sym (seen-same h shown));
   }
 
-  pub learns-some : (area : ℕ) (old new : Known) → LearnsSome (sight_of v held) s area old new → LearnsSome (copied_sight former v held copies) s area old new
+  pub learns-some : {former : View} (area : ℕ) (old new : Known) → LearnsSome (sight_of v held) s area old new → LearnsSome (copied_sight former v held copies) s area old new
   learns-some area old new learns = record {
     lines = learns.lines;
     learnt = learns.learnt;
     seen = λ h shown. learns.seen shown.plain shown.shown ∙ ap (λ (lines : Lines). take learns.learnt.0 (lines_in area lines)) (sym (seen-same h shown));
   }
 
-  pub is-room : (area : ℕ) (from : Option Dbkey) (key : Dbkey) (h : Shelf) (shown : ShownWith former v held copies h) → IsRoom shown.plain s area from key → IsRoom h s area from key
+  pub is-room : {former : View} (area : ℕ) (from : Option Dbkey) (key : Dbkey) (h : Shelf) (shown : ShownWith former v held copies h) → IsRoom shown.plain s area from key → IsRoom h s area from key
   is-room area from key h shown is = subst (λ (x : Shelf). IsRoom x s area from key) (sym shown.is) (record {
     area_is = is.area_is;
     file = is.file;
@@ -210,7 +210,7 @@ module _ {former : View} (v : View) (held : StoreMemory) (copies : CopiesMemory)
     free = ap (λ (lines : Lines). line_in key lines) (seen-with (copied_by copies) shown.plain s) ∙ is.free;
   })
 
-  pub is-full : (area limit : ℕ) (h : Shelf) (shown : ShownWith former v held copies h) → IsFull shown.plain s area limit → IsFull h s area limit
+  pub is-full : {former : View} (area limit : ℕ) (h : Shelf) (shown : ShownWith former v held copies h) → IsFull shown.plain s area limit → IsFull h s area limit
   is-full area limit h shown is = subst (λ (x : Shelf). IsFull x s area limit) (sym shown.is) (record {
     limit_is = is.limit_is;
     file = is.file;
@@ -228,7 +228,7 @@ module _ {former : View} (v : View) (held : StoreMemory) (copies : CopiesMemory)
     stops-change more (change.Unfit key) h is = is
     stops-change more change.NoMemory h is = tt
 
-    pub may-stop-change : (more : List Write) (stop : ChangeStop) → ((h : Shelf) → Shown v held h → MayStopChange h s more stop) → (h : Shelf) → ShownWith former v held copies h → MayStopChange h s more stop
+    pub may-stop-change : {former : View} (more : List Write) (stop : ChangeStop) → ((h : Shelf) → Shown v held h → MayStopChange h s more stop) → (h : Shelf) → ShownWith former v held copies h → MayStopChange h s more stop
     may-stop-change more stop may h shown = subst (λ (x : Shelf). MayStopChange x s more stop) (sym shown.is) (stops-change more stop shown.plain (may shown.plain shown.shown))
 
     stops-commit : (stop : CommitStop) (h : Shelf) → MayStopCommit h s stop → MayStopCommit (with_copies (copied_by copies) h) s stop
@@ -243,5 +243,5 @@ module _ {former : View} (v : View) (held : StoreMemory) (copies : CopiesMemory)
         seat = seat-with (copied_by copies) h s none
     stops-commit commit.NoMemory h is = tt
 
-    pub may-stop-commit : (stop : CommitStop) → ((h : Shelf) → Shown v held h → MayStopCommit h s stop) → (h : Shelf) → ShownWith former v held copies h → MayStopCommit h s stop
+    pub may-stop-commit : {former : View} (stop : CommitStop) → ((h : Shelf) → Shown v held h → MayStopCommit h s stop) → (h : Shelf) → ShownWith former v held copies h → MayStopCommit h s stop
     may-stop-commit stop may h shown = subst (λ (x : Shelf). MayStopCommit x s stop) (sym shown.is) (stops-commit stop shown.plain (may shown.plain shown.shown))
