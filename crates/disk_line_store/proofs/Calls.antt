@@ -1,10 +1,9 @@
 -- The calls of the store, beside what sessions copy.
-use Rattle.std.proofs.Common.{◌≡◌, ◌≢◌, ◌≤◌, ◌+◌, ◌==◌, ◌<◌, ◌⊎◌, ⊎_elim, inl, inr, ℕ, Bool, true, false, List, [], take, Option, Some, None, Result, Ok, Err, OnOk, OnErr, IfErr, IfOk, is_some, refl, sym, ap, subst, ◌∙◌}
+use Rattle.std.proofs.Common.{◌≡◌, ◌+◌, ◌==◌, ◌<◌, ⊎_elim, inl, inr, ℕ, Bool, true, false, List, [], take, Option, Some, None, Result, Ok, Err, OnOk, OnErr, IfErr, IfOk, is_some, refl, sym, ap, subst, ◌∙◌}
 use Rattle.std.proofs.lemmas.Bool.{eqb-true, eqb-false}
 use Rattle.std.proofs.lemmas.Option.{none-some}
 use Rattle.rdb_types.specs.declared.keys.Dbkey.{Dbkey}
 use Rattle.rdb_outside.specs.Disk.{View}
-use Rattle.area_files.specs.Areas.{IsSpacePage}
 use Rattle.line_view.specs.declared.writes.Write.{Write}
 use Rattle.line_view.specs.Knowledge.{Lines, line_in, lines_in}
 use Rattle.line_view.specs.Held.{Held as Known}
@@ -33,7 +32,7 @@ use Rattle.change_steps.specs.disk_store.declared.member.MemberStage.TheVariants
 use Rattle.change_steps.specs.disk_store.Seats.{seat_with, stand_of, stand_at, IsAtStage}
 use Rattle.change_steps.specs.disk_store.Shown.{DoesOn, Shown, sight_of}
 use Rattle.store_copies.specs.Memory.{CopiesMemory, copied_by}
-use Rattle.store_copies.specs.Shown.{seated, with_copies, is_reader, AreReaders, LeavesOthers, ShownWith, copied_sight}
+use Rattle.store_copies.specs.Shown.{with_copies, is_reader, AreReaders, LeavesOthers, ShownWith, copied_sight}
 use Rattle.store_copies.proofs.Begins.{reading-at}
 use Rattle.store_copies.proofs.Plain.{Leaves, does-with}
 use Rattle.store_copies.proofs.Relations.{changes-with, comes-with, moves-with, reads-with}

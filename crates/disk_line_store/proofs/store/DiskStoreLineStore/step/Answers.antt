@@ -1,4 +1,4 @@
-use Rattle.std.proofs.Common.{◌≡◌, None, sym, ap, subst, ◌∙◌, IsTrue, arith}
+use Rattle.std.proofs.Common.{◌≡◌, None, sym, subst, ◌∙◌, IsTrue, arith}
 use Rattle.rdb_outside.specs.Disk.{LeftNow}
 use Rattle.line_store.specs.Seats.{Seat}
 use Rattle.line_store.specs.Sights.{Does, Steps, stepped_to}
