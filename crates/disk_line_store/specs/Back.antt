@@ -18,8 +18,8 @@ pub record ShownBack (v : View) (held : StoreMemory) (h : Shelf) : Type 0 where
   pub clock : plain.clock ≡ h.clock
   pub now : plain.now ≡ h.now
 
--- The disk has the backup, of these lines.
-pub record IsBackedUp (v : View) (number since : ℕ) (lines : Lines) : Type 0 where
+-- The disk has a backup of this number, of these lines.
+pub record HasBackupOf (v : View) (number since : ℕ) (lines : Lines) : Type 0 where
   pub backup : Stood
   pub lines_are : backup.lines ≡ lines
   pub has : HasBackup v number since backup
@@ -31,5 +31,5 @@ pub record IsBack (former : View) (sight : Sight) (v : View) : Type 0 where
   pub left : (t : ℕ) (lines : Lines) → Leaves v t lines → sight.left t lines
   pub opens : (t : ℕ) → sight.opens t → AllOpen v t
   pub stand : (s : ℕ) → sight.stand s ≡ outside → stand_at held.members s ≡ outside
-  pub backed : (h : Shelf) → sight.shows h → (number since : ℕ) (lines : Lines) → since ≤ h.clock.time → sight.backed number since lines → IsBackedUp v number since lines
+  pub backed : (h : Shelf) → sight.shows h → (number since : ℕ) (lines : Lines) → since ≤ h.clock.time → sight.backed number since lines → HasBackupOf v number since lines
   pub standing : (h : Shelf) → sight.shows h → IsInUse former → (number since : ℕ) (b : Stood) → HasBackup former number since b → sight.copier number ≡ None → HasBackup v number since b
