@@ -23,4 +23,4 @@ module _ (M : Model) (o : Opening) (former v : View) (events : List Event) (sigh
 
   -- nobody began one of its number, so the store had it as it was
   pub leaves-backups : LeavesBackups o former v events
-  leaves-backups in_use number since b none was = back.standing has.shelf has.shown in_use number since b (has.backups.copiers number ∙ none) was
+  leaves-backups in_use number since b none was = back.standing has.shelf has.shown in_use number since b was (has.backups.copiers number ∙ none)

@@ -24,7 +24,7 @@ use Rattle.line_store.specs.Sights.{Sight, bare}
 use Rattle.session_jobs.specs.Records.{Model}
 use Rattle.session_stands.proofs.Seats.{outside-seat}
 use Rattle.line_drive.specs.line_cluster.Deaths.{CountsFaults, RoseBy}
-use Rattle.line_drive.specs.line_cluster.Sound.{HasImages, IsLeft, IsOpenedBy, ShowsSpent}
+use Rattle.line_drive.specs.line_cluster.Sound.{HasImages, IsLeft, ShowsSpent}
 use Rattle.line_runs.specs.Openings.{HasSpent}
 use Rattle.line_runs.specs.Prefix.{GaveUp, HoldsAll, HoldsPrefix, StandsFor}
 
@@ -42,10 +42,6 @@ same-faults v sight back h shown = let it : ShownBack v back.held h = back.shows
 -- the faults that the store counted are the disk's
 pub harmed : {former : View} (v : View) (sight : Sight) → IsBack former sight v → (faults more : ℕ) → CountsFaults faults more sight → RoseBy more faults v.faults
 harmed v sight back faults more k = subst (λ (n : ℕ). RoseBy more faults n) (same-faults v sight back k.shelf k.shown) k.rose
-
--- it counted them as it opened
-pub no-fewer : {former : View} (M : Model) (o : Opening) (v : View) (sight : Sight) → IsBack former sight v → (faults : ℕ) (word : List ℕ) → IsOpenedBy M o faults word sight → faults ≤ v.faults
-no-fewer M o v sight back faults word is = subst (λ (n : ℕ). faults ≤ n) (same-faults v sight back is.shelf is.shown) is.no_fewer
 
 -- the numbers that it had used up, its root has
 pub spent-root : {former : View} (v : View) (sight : Sight) → IsBack former sight v → ShowsSpent sight → HasSpent v

@@ -4,7 +4,7 @@ use Rattle.disk_line_store.specs.store_copies.Shown.{copied_sight}
 use Rattle.disk_line_store.specs.Back.{IsBack}
 use Rattle.line_runs.proofs.Earlier.{all-stand, backup-apart, backup-other}
 use Rattle.line_runs.proofs.Opening.{at-moment, opens-by}
-use Rattle.line_runs.proofs.Prefix.{gave-up-behind, gave-up-within, no-fewer}
+use Rattle.line_runs.proofs.Prefix.{gave-up-behind, gave-up-within, same-faults}
 use Rattle.line_runs.proofs.runs.begin.Goals as goal
 
 pub returns-in-Err-clause-bad : goal.returns-in-Err-clause-bad
@@ -25,7 +25,6 @@ start-requires-clause-opened g c = λ told.
 
 pub returns-in-Err-start-clause-later : goal.returns-in-Err-start-clause-later
 returns-in-Err-start-clause-later g c = λ told.
-    let o = g.O.Origin.opening in
     let w = c.requires.opens told in
     let old = g.D.Disk.view c.args.disk in
     let v = g.D.Disk.view c.open.new.disk in
@@ -37,9 +36,7 @@ returns-in-Err-start-clause-later g c = λ told.
     let end = g.D.Disk.view c.into_disk.result in
     let sight = copied_sight former (g.D.Disk.view c.new-store.result.disk) c.new-store.result.held c.new-store.result.copies in
     let back : IsBack former sight end = subst (λ t. IsBack former (copied_sight former (g.D.Disk.view t.disk) t.held t.copies) end) c.in-Err-start.ensures.back c.into_disk.ensures in
-    let opened = opens-by _ old.content w.lines w.journal v c.in-Ok.held begins c.args.said.word o g.O.Origin.faults (at-moment old.content w.journal v.moment o w.opens) (sym c.requires.word) w.stands
-    (subst (λ (n : ℕ). n ≤ v.faults) (sym (c.requires.faults told)) c.open.ensures.no_fewer) sight shown c.new-store.ensures.nobody in
-    subst (λ (n : ℕ). n ≤ end.faults) (c.requires.faults told) (no-fewer _ o end sight back g.O.Origin.faults c.args.said.word opened)
+    subst (λ (n : ℕ). old.faults ≤ n) (same-faults end sight back begins.shelf shown) (subst (λ (n : ℕ). old.faults ≤ n) (sym begins.shown.lines.faults) c.open.ensures.no_fewer)
 
 pub returns-in-Err-clause-gave_up : goal.returns-in-Err-clause-gave_up
 returns-in-Err-clause-gave_up g c = λ told.
