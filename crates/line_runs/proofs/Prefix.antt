@@ -36,7 +36,7 @@ leaves-now v held h shown image lines left has = record { image = image; left = 
 pub same-time : {former : View} (v : View) (sight : Sight) (back : IsBack former sight v) (h : Shelf) → sight.shows h → h.clock.time ≡ v.moment
 same-time v sight back h shown = let it : ShownBack v back.held h = back.shows h shown in ap (λ (clock : Clock). clock.time) (sym it.clock) ∙ it.shown.lines.time
 
-same-faults : {former : View} (v : View) (sight : Sight) (back : IsBack former sight v) (h : Shelf) → sight.shows h → h.clock.faults ≡ v.faults
+pub same-faults : {former : View} (v : View) (sight : Sight) (back : IsBack former sight v) (h : Shelf) → sight.shows h → h.clock.faults ≡ v.faults
 same-faults v sight back h shown = let it : ShownBack v back.held h = back.shows h shown in ap (λ (clock : Clock). clock.faults) (sym it.clock) ∙ it.shown.lines.faults
 
 -- the faults that the store counted are the disk's
