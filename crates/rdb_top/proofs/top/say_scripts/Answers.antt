@@ -99,4 +99,4 @@ pub returns-in-Err-clause-backups_before : goal.returns-in-Err-clause-backups_be
 returns-in-Err-clause-backups_before g c told opened = absurd (none-some _ (sym opened ∙ c.unopened.ensures.fault))
 
 pub run_of-requires-clause-former : goal.run_of-requires-clause-former
-run_of-requires-clause-former g c = record { in_use = λ is. is; stood = λ number since b has. has }
+run_of-requires-clause-former g c κs within = record { in_use = λ is. is; stood = λ number since b has. has }
