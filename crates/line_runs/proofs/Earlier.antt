@@ -57,11 +57,10 @@ module _ (old w : View) (told : w.tells ≡ old.tells) (left : LeftNow old old.c
     gives-now : 1 ≤ journal.first → Gives
     gives-now one =
         let it : RollsFrom b.lines b.last_group old.content = was.rolls old.content (inr there) (λ first header. subst (λ (n : ℕ). 1 ≤ n) (sym kept.journal.header.fields.1.0 ∙ header.fields.1.0) one) in
-        let same : it.rolls.journal ≡ journal = one_journal old.content it.rolls.journal journal it.rolls.kept.journal kept.journal in
-        (
+        let same : it.rolls.journal ≡ journal = one_journal old.content it.rolls.journal journal it.rolls.kept.journal kept.journal in (
           subst (λ (j : Journal). b.last_group < next_number j) same it.below,
           one_lines old.content journal.groups lines it.rolls.lines kept.stands (subst (λ (j : Journal). StandsFor old.content j.groups it.rolls.lines) same it.rolls.kept.stands)
-          ∙ it.rolls.gives ∙ ap (λ (j : Journal). rolled b.lines b.last_group j.groups) same,
+              ∙ it.rolls.gives ∙ ap (λ (j : Journal). rolled b.lines b.last_group j.groups) same,
         )
 
     rolls-kept : (image : Image) → Kept classes lines journal image → NumbersFromOne image → RollsFrom b.lines b.last_group image

@@ -62,7 +62,13 @@ pub(crate) fn say<
     ensures unsaid { (result.fault ≡ None → ⊥) → result.events ≡ [] }
 {
     let sessions = said.scripts.len() as u32;
-    say_in_threads::<R, O, Brand, D, Among<'_, G>>(rt, alloc, disk, said, &Among::of(sessions, gate))
+    say_in_threads::<R, O, Brand, D, Among<'_, G>>(
+        rt,
+        alloc,
+        disk,
+        said,
+        &Among::of(sessions, gate),
+    )
 }
 
 /// The status of a database that wasn't opened or read.
