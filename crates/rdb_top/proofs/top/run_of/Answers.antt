@@ -20,3 +20,9 @@ returns-then-given-clause-used_up g c told over = rw c.unwatched.ensures.disk (c
 
 pub returns-else-given-clause-used_up : goal.returns-else-given-clause-used_up
 returns-else-given-clause-used_up g c told over = rw c.unwatched-else-given.ensures.disk (c.say_in_threads.ensures.spent told (over-told c.say_in_threads.result.halt c.unwatched-else-given.result.halt c.unwatched-else-given.ensures.halt over))
+
+pub returns-then-given-clause-backups_before : goal.returns-then-given-clause-backups_before
+returns-then-given-clause-backups_before g c told opened = rw c.unwatched.ensures.events (rw c.unwatched.ensures.disk (c.say_in_order.ensures.backups_before told (sym c.unwatched.ensures.fault ∙ opened)))
+
+pub returns-else-given-clause-backups_before : goal.returns-else-given-clause-backups_before
+returns-else-given-clause-backups_before g c told opened = rw c.unwatched-else-given.ensures.events (rw c.unwatched-else-given.ensures.disk (c.say_in_threads.ensures.backups_before told (sym c.unwatched-else-given.ensures.fault ∙ opened)))
